@@ -1,0 +1,12 @@
+pub mod First
+pub mod Laws
+pub mod Run
+pub mod Serial
+pub mod Own
+pub mod Order
+pub mod Settled
+pub mod Theorem
+pub mod Respects
+pub mod Step
+pub mod Worked
+pub mod Slips

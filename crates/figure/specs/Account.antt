@@ -1,0 +1,137 @@
+-- What happened, and the account of it. Assumes nothing.
+use Prim.Native.Nat.{ℕ, zero, suc, min}
+use mathlib.Core.Option.{Option, none, some}
+use mathlib.Core.List.{List, [], _∷_, _++_}
+use lib.ListN.{take}
+use Rattle.figure.specs.declared.Sizes.{Sizes}
+use Rattle.figure.specs.Refusals.{pick}
+use Rattle.figure.specs.Figure.{upd, Out, wr, In, up, State, Step, R, W, MW, MR, CU, CI, accepted, next, step}
+
+-- "The event of an accepted action fills in what happened"; a refused action has none
+pub data Event : Type 0 where
+  refused : Event
+  read : (i a d : ℕ) → Event
+  wrote : (i a d : ℕ) → Event
+  published : (i a d : ℕ) → Event
+  refreshed : (i a d : ℕ) → Event
+  updated : (i o a d : ℕ) → Event
+  dropped : (i a : ℕ) → Event
+
+-- the value that a cache holds
+abbrev pub held : Option ℕ → ℕ
+held none = 0
+held (some d) = d
+
+-- the head of an out queue, published by i; the head of an in queue, taken by i
+abbrev pub head-out : ℕ → List Out → Event
+head-out i [] = refused
+head-out i (wr a d ∷ q) = published i a d
+
+abbrev pub head-in : ℕ → List In → Event
+head-in i [] = refused
+head-in i (up o a d ∷ q) = updated i o a d
+
+abbrev pub event : State → Step → Event
+event s (R i a) = read i a (held (s .engine i .cache a))
+event s (W i a d) = wrote i a d
+event s (MW i) = head-out i (s .engine i .outs)
+event s (MR i a) = refreshed i a (s .memory a)
+event s (CU i) = head-in i (s .engine i .ins)
+event s (CI i a) = dropped i a
+
+-- what happened, action by action
+abbrev pub trace : Sizes → State → List Step → List Event
+trace z s [] = []
+trace z s (x ∷ xs) = pick (accepted z s x) (event s x) refused ∷ trace z (step z s x) xs
+
+-- ---- the log: the accepted reads and writes as they happened
+
+-- a read or a write, with its place t in the list of actions: "Two events with equal fields are still two events."
+pub data Item : Type 0 where
+  reading : (t i a d : ℕ) → Item
+  writing : (t i a d : ℕ) → Item
+
+abbrev pub logged : ℕ → Event → List Item
+logged t refused = []
+logged t (read i a d) = reading t i a d ∷ []
+logged t (wrote i a d) = writing t i a d ∷ []
+logged t (published i a d) = []
+logged t (refreshed i a d) = []
+logged t (updated i o a d) = []
+logged t (dropped i a) = []
+
+abbrev pub log : ℕ → List Event → List Item
+log t [] = []
+log t (e ∷ es) = logged t e ++ log (suc t) es
+
+-- ---- the book: what the account is made of
+
+-- slots: slot 0 holds its reads, slot k holds write k and then its reads
+-- taken: how many writes each engine has removed from its in queue by CU
+-- pending: the writes of each engine not yet published, oldest first
+pub record Book : Type 0 where
+  pub slots : List (List Item)
+  pub taken : ℕ → ℕ
+  pub pending : ℕ → List Item
+
+abbrev pub blank : Book
+blank = record { slots = [] ∷ []; taken = λ i. 0; pending = λ i. [] }
+
+-- the item joins slot k
+abbrev pub put : ℕ → Item → List (List Item) → List (List Item)
+put k x [] = []
+put zero x (s ∷ ss) = (s ++ (x ∷ [])) ∷ ss
+put (suc k) x (s ∷ ss) = s ∷ put k x ss
+
+-- "Each accepted MW publishes the oldest write of its engine not yet published": it opens the next slot
+abbrev pub open-slot : Book → ℕ → List Item → Book
+open-slot b i [] = b
+open-slot b i (x ∷ q) = record { slots = b .slots ++ ((x ∷ []) ∷ []); taken = b .taken; pending = upd (b .pending) i q }
+
+-- "An engine has taken as many as it has removed from its in queue by CU; entries of origin 0 are not counted."
+abbrev pub take-one : Book → ℕ → ℕ → Book
+take-one b i zero = b
+take-one b i (suc o) = record { slots = b .slots; taken = upd (b .taken) i (suc (b .taken i)); pending = b .pending }
+
+-- action t, and what happened; "A read belongs to the slot whose number its engine had taken at that moment."
+abbrev pub note : ℕ → Event → Book → Book
+note t refused b = b
+note t (read i a d) b = record { slots = put (b .taken i) (reading t i a d) (b .slots); taken = b .taken; pending = b .pending }
+note t (wrote i a d) b = record { slots = b .slots; taken = b .taken; pending = upd (b .pending) i (b .pending i ++ (writing t i a d ∷ [])) }
+note t (published i a d) b = open-slot b i (b .pending i)
+note t (refreshed i a d) b = b
+note t (updated i o a d) b = take-one b i o
+note t (dropped i a) b = b
+
+abbrev pub book : ℕ → List Event → Book → Book
+book t [] b = b
+book t (e ∷ es) b = book (suc t) es (note t e b)
+
+-- ---- the account
+
+abbrev pub flat : List (List Item) → List Item
+flat [] = []
+flat (s ∷ ss) = s ++ flat ss
+
+-- "Last come unpublished writes, by engine number, oldest first": of the engines 1 to n
+abbrev pub unpublished : ℕ → (ℕ → List Item) → List Item
+unpublished zero f = []
+unpublished (suc n) f = unpublished n f ++ f (suc n)
+
+-- "reads of slot 0, write 1, reads of slot 1, write 2, and so on"
+abbrev pub account : Sizes → Book → List Item
+account z b = flat (b .slots) ++ unpublished (z .engines) (b .pending)
+
+-- "An engine's floor is the number of writes it has taken, since its next read falls there."
+abbrev pub floor : Book → ℕ → ℕ
+floor b i = b .taken i
+
+-- the lowest of the engines 1 to n
+abbrev pub lowest : ℕ → (ℕ → ℕ) → ℕ
+lowest zero f = 0
+lowest (suc zero) f = f 1
+lowest (suc (suc n)) f = min (lowest (suc n) f) (f (suc (suc n)))
+
+-- "The settled part ends with the reads so far in the slot of the lowest floor"
+abbrev pub settled : Sizes → Book → List Item
+settled z b = flat (take (suc (lowest (z .engines) (floor b))) (b .slots))

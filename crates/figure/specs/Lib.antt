@@ -1,0 +1,6 @@
+-- what a reader must believe, in the order of document 01
+pub mod Refusals
+pub mod Record
+pub mod Figure
+pub mod Account
+pub mod Demand

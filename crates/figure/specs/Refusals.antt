@@ -1,0 +1,50 @@
+-- Refusals in order, and the sizes. Assumes nothing.
+use Prim.Native.Nat.{ℕ, _<_}
+use mathlib.Core.Bool.{Bool, true, false, _||_}
+use mathlib.Core.List.{List, [], _∷_}
+use lib.Dec.{ltb}
+use Rattle.figure.specs.declared.Sizes.{Sizes}
+
+-- a number, and whether what it stands for applies
+pub record Refusal : Type 0 where
+  pub number : ℕ
+  pub applies : Bool
+
+abbrev pub _when_ : ℕ → Bool → Refusal
+n when b = record { number = n; applies = b }
+
+infix 68 _when_
+-- a where the test holds, and else b
+abbrev pub pick : {A : Type 0} → Bool → A → A → A
+pick true a b = a
+pick false a b = b
+
+-- "The first that applies, in the table's order, is the answer; 0 if none does."
+abbrev pub firstOf : List Refusal → ℕ
+firstOf [] = 0
+firstOf (r ∷ rs) = pick (r .applies) (r .number) (firstOf rs)
+
+-- below lo or above hi
+abbrev pub outside : ℕ → ℕ → ℕ → Bool
+outside lo hi x = ltb x lo || ltb hi x
+
+-- document 01, Sizes: engines 1 to 8, addresses 1 to 64, depth of every queue 1 to 32, a list of 0 to 2,048 actions
+abbrev pub mostEngines : ℕ
+mostEngines = 8
+
+abbrev pub mostAddresses : ℕ
+mostAddresses = 64
+
+abbrev pub mostDepth : ℕ
+mostDepth = 32
+
+abbrev pub mostActions : ℕ
+mostActions = 2048
+
+-- the refusals that reader, writer and fresh store share
+unfoldable pub sizesRefused : Sizes → List Refusal
+sizesRefused z =
+    4 when outside 1 mostEngines (z .engines)
+    ∷ 5 when outside 1 mostAddresses (z .addresses)
+    ∷ 6 when outside 1 mostDepth (z .depth)
+    ∷ []
