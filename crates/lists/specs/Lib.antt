@@ -1,0 +1,6 @@
+-- what a reader must believe, in the order of document 01
+pub mod Bytes
+pub mod Record
+pub mod Read
+pub mod Write
+pub mod Walk

@@ -1,0 +1,39 @@
+-- What the writer answers, and what it leaves in the output. Assumes nothing.
+use mathlib.Core.Path.{_≡_}
+use mathlib.Core.List.{List, [], _∷_, _++_}
+use mathlib.Core.Bool.{not}
+use Prim.Native.Nat.{ℕ, zero, suc, _/_, _%_}
+use lib.ListN.{length}
+use lib.Dec.{ltb, eqb}
+use Rattle.figure.specs.declared.Sizes.{Sizes}
+use Rattle.figure.specs.Refusals.{Refusal, _when_, firstOf, sizesRefused, mostActions}
+use Rattle.lists.specs.Bytes.{laid}
+use Rattle.lists.specs.Record.{recordWidth}
+use Rattle.lists.specs.Read.{listBytes}
+use Rattle.lists.specs.declared.writer.Written.{Written}
+
+-- "Writer: 4, 5, 6, 10, 8, 9, 30"; room is how many bytes the output has
+unfoldable pub writeRefused : Sizes → List ℕ → List ℕ → ℕ → List Refusal
+writeRefused z memory actions room =
+    sizesRefused z
+    ++ 10 when not (eqb (length memory) (z .addresses))
+    ∷ 8 when not (eqb (length actions % recordWidth) 0)
+    ∷ 9 when ltb mostActions (length actions / recordWidth)
+    ∷ 30 when ltb room (length (listBytes z memory actions))
+    ∷ []
+
+-- the bytes where the number is 0, none on a refusal
+unfoldable pub unless : ℕ → List ℕ → List ℕ
+unless zero bytes = bytes
+unless (suc n) bytes = []
+
+-- what is written over the output's front
+unfoldable pub bytesWritten : Sizes → List ℕ → List ℕ → ℕ → List ℕ
+bytesWritten z memory actions room =
+    unless (firstOf (writeRefused z memory actions room)) (listBytes z memory actions)
+
+-- "answers with the list's length, 0 on a refusal"
+pub record Wrote (z : Sizes) (memory actions old : List ℕ) (r : Written) (new : List ℕ) : Type 0 where
+  pub number-is : r .number ≡ firstOf (writeRefused z memory actions (length old))
+  pub length-is : r .length ≡ length (bytesWritten z memory actions (length old))
+  pub out-is : new ≡ laid (bytesWritten z memory actions (length old)) old

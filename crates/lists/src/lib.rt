@@ -1,0 +1,6 @@
+// Lists on the wire: the record's bytes, the reader, the memory values, the writer and the walker.
+pub mod bytes;
+pub mod memory;
+pub mod reader;
+pub mod walker;
+pub mod writer;
