@@ -1,0 +1,47 @@
+-- Lengths: of a log, of a rearrangement, of the two counts of a trace. Assumes nothing.
+use Prim.Native.Nat.{ℕ, suc, _+_, _≤_}
+use native.Mathlib.Nat.{ℕ-set}
+use native.Mathlib.Omega.{arith}
+use mathlib.Core.Path.{_≡_, refl, ap, _∙_}
+use mathlib.Core.Logic.{∥∥₁-elim}
+use mathlib.Core.Bool.{Bool, true, false}
+use mathlib.Core.List.{List, [], _∷_, List·Permᴰ, List·Permᴰ·nil, List·Permᴰ·cons, List·Permᴰ·swap, List·Permᴰ·trans, Perm}
+use lib.ListN.{length, length-append}
+use Rattle.figure.specs.declared.Record.{Record}
+use Rattle.figure.specs.Refusals.{pick}
+use Rattle.figure.specs.Account.{Event, refused, read, wrote, published, refreshed, updated, dropped, logged, log}
+use Rattle.history.specs.Run.{isRefused, acceptedIn, refusedIn}
+
+-- no event is logged twice
+pub log-most : (t : ℕ) (es : List Event) → length (log t es) ≤ length es
+log-most t [] = omega arith
+log-most t (e ∷ es) = omega (arith, length-append (logged t e) (log (suc t) es), one-most e, log-most (suc t) es)
+  where
+    one-most : (e : Event) → length (logged t e) ≤ 1
+    one-most refused = omega arith
+    one-most (read i a d) = omega arith
+    one-most (wrote i a d) = omega arith
+    one-most (published i a d) = omega arith
+    one-most (refreshed i a d) = omega arith
+    one-most (updated i o a d) = omega arith
+    one-most (dropped i a) = omega arith
+
+module _ {A : Type 0} where
+  derived-long : {xs ys : List A} → List·Permᴰ xs ys → length xs ≡ length ys
+  derived-long List·Permᴰ·nil = refl
+  derived-long (List·Permᴰ·cons e d) = ap suc (derived-long d)
+  derived-long (List·Permᴰ·swap e f) = refl
+  derived-long (List·Permᴰ·trans d e) = derived-long d ∙ derived-long e
+
+  pub perm-long : (xs ys : List A) → Perm xs ys → length xs ≡ length ys
+  perm-long xs ys p = ∥∥₁-elim p (ℕ-set (length xs) (length ys)) derived-long
+
+-- "accepted and refused actions": each action is one or the other
+pub all-counted : (rs : List Record) → acceptedIn rs + refusedIn rs ≡ length rs
+unfolding acceptedIn refusedIn
+all-counted [] = refl
+all-counted (r ∷ rs) = at (isRefused r) (all-counted rs)
+  where
+    at : (t : Bool) → acceptedIn rs + refusedIn rs ≡ length rs → pick t (acceptedIn rs) (suc (acceptedIn rs)) + pick t (suc (refusedIn rs)) (refusedIn rs) ≡ suc (length rs)
+    at true h = omega arith
+    at false h = omega arith

@@ -1,0 +1,100 @@
+use Prim.Native.Nat.{_-_, _*_, _<_}
+use native.Mathlib.Omega.{arith}
+use borrow.Author.Needs.{needs}
+use mathlib.Core.Path.{refl, _∙_}
+use lib.ListN.{getD}
+use denote.Ref.{now}
+use Rattle.figure.specs.Refusals.{mostActions}
+use Rattle.store.specs.Turns.{actionAt}
+use Rattle.history.specs.Lines.{lineWidth}
+use Rattle.history.specs.Pieces.{placedLine}
+use Rattle.history.proofs.Firsts.{Firsts, firsts-none, firsts-long, firsts-room, firsts-more, firsts-all}
+use Rattle.history.proofs.lines.put_placed.Statement.{statement}
+use Rattle.history.proofs.lines.put_placed.Tie as tie
+
+abbrev Inv-loop : tie.InvT-loop
+Inv-loop trace keys order n out₀ p₀ out p = Firsts (placedLine (actionAt trace) keys) lineWidth n order out₀ 0 out p
+
+abbrev μ-loop : tie.MeasureT-loop
+μ-loop trace keys order n out₀ p₀ out p = n - p
+
+loop-holds : tie.Need-loop-holds Inv-loop μ-loop
+loop-holds c = let p = c .before .before .pre in firsts-none (omega (arith, p)) (omega (arith, p))
+
+mul-j : tie.Need-mul-j Inv-loop μ-loop
+mul-j c = search needs
+
+element-copy-out-j : tie.Need-element-copy-out-j Inv-loop μ-loop
+element-copy-out-j c = search needs
+
+-- the index that the order has at place p
+index : (c : tie.In-loop Inv-loop μ-loop) → getD (now (c .before .before .before .before .args .order)) (c .before .loop .p) 0 < mostActions
+index c = c .before .before .before .before .pre .within (c .before .loop .p) (c .loop-test .taken)
+
+cast-j : tie.Need-cast-j Inv-loop μ-loop
+cast-j c = omega (arith, index (c .before))
+
+mul-record-at : tie.Need-mul-record-at Inv-loop μ-loop
+mul-record-at c = omega (arith, index (c .before))
+
+record-at-requires : tie.Need-record-at-requires Inv-loop μ-loop
+record-at-requires c κs = search needs
+
+mul-number-of : tie.Need-mul-number-of Inv-loop μ-loop
+mul-number-of c = omega (arith, index (c .before .before))
+
+element-copy-out-number-of : tie.Need-element-copy-out-number-of Inv-loop μ-loop
+element-copy-out-number-of c = index (c .before .before)
+
+number-of-requires : tie.Need-number-of-requires Inv-loop μ-loop
+number-of-requires c κs = search needs
+
+mul-put-line : tie.Need-mul-put-line Inv-loop μ-loop
+mul-put-line c = search needs
+
+put-line-requires : tie.Need-put-line-requires Inv-loop μ-loop
+put-line-requires c κs =
+    let s = c .before .before .before .before .before in
+    omega (arith, firsts-room (s .before .loop .inv) (s .loop-test .taken))
+
+add-p : tie.Need-add-p Inv-loop μ-loop
+add-p c = search needs
+
+loop-less : tie.Need-loop-less Inv-loop μ-loop
+loop-less c = search needs
+
+loop-again : tie.Need-loop-again Inv-loop μ-loop
+loop-again c =
+    let s = c .before .before .before .before .before .before .before .before in
+    let number = c .before .before .before .before .number-of .ensures in
+    let event = c .before .before .before .before .before .before .record-at .ensures in
+    firsts-more (λ x. refl) 0 {place = lineWidth * s .before .loop .p} (s .before .loop .inv) (s .loop-test .taken) (c .before .before .put-line .ensures ∙ rw (number, event)) (omega arith)
+
+same-length : tie.Need-same-length Inv-loop μ-loop
+same-length c = firsts-long (c .before .loop .inv)
+
+returns : tie.Need-returns Inv-loop μ-loop
+returns c = firsts-all (c .before .loop .inv) (omega arith)
+
+pub put-placed-spec : {M : Type 1} → statement M
+put-placed-spec =
+    tie.close
+    (tie.spec
+    Inv-loop
+    μ-loop
+    loop-holds
+    mul-j
+    element-copy-out-j
+    cast-j
+    mul-record-at
+    record-at-requires
+    mul-number-of
+    element-copy-out-number-of
+    number-of-requires
+    mul-put-line
+    put-line-requires
+    add-p
+    loop-less
+    loop-again
+    same-length
+    returns)

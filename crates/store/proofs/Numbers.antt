@@ -1,0 +1,102 @@
+-- The number of an answer: "The first that applies, in the table's order, is the answer; 0 if none does." Assumes nothing.
+use mathlib.Core.Path.{_≡_, refl, sym, _∙_}
+use mathlib.Core.Bool.{Bool, true, false}
+use mathlib.Core.List.{List, [], _++_}
+use Prim.Native.Nat.{ℕ, zero, suc}
+use native.Mathlib.Omega.{arith}
+use lib.Dec.{eqb}
+use borrow.Author.Tests.{eqb-true, eqb-false}
+use Rattle.figure.specs.Refusals.{firstOf}
+use Rattle.figure.specs.declared.Record.{Record}
+use Rattle.figure.specs.declared.Sizes.{Sizes}
+use Rattle.figure.proofs.First.{NoneApplies, Passed, testAt, numberAt, none-first, first-none, first-at, first-append, first-front}
+use Rattle.store.proofs.Kept.{sizes-ranged, fresh-numbered, fresh-sizes, fresh-table, fresh-sound, zeros-unsound}
+use Rattle.store.proofs.Shaped.{Shaped, fresh-shaped}
+use Rattle.store.proofs.Taken.{form-numbered, step-numbered}
+use Rattle.store.specs.Fresh.{freshOf, zeros, freshRefused, made, madeAs}
+use Rattle.store.specs.Sound.{soundOf}
+use Rattle.store.specs.Step.{formRefused, turnRefused, stepRefused, answered, stepped}
+use Rattle.store.specs.declared.Store.{Store}
+
+-- ---- the step
+
+answered-number : (n : ℕ) (s : Store) (x : Record) → answered n s x .number ≡ n
+answered-number zero s x = refl
+answered-number (suc n) s x = refl
+
+module _ (s : Store) (x : Record) where
+  pub step-number : stepped s x .number ≡ firstOf (stepRefused s x)
+  unfolding stepped
+  step-number = answered-number (firstOf (stepRefused s x)) s x
+
+  -- "the first that applies, in the table's order": the refusal at place k applies, and none before it
+  pub step-first : (k : ℕ) → Passed k (stepRefused s x) → testAt k (stepRefused s x) ≡ true → stepped s x .number ≡ numberAt k (stepRefused s x)
+  step-first k p e = step-number ∙ first-at k (stepRefused s x) p e
+
+  -- "0 if none does", and only then
+  pub step-zero : NoneApplies (stepRefused s x) → stepped s x .number ≡ 0
+  step-zero h = step-number ∙ first-none (stepRefused s x) h
+
+  pub zero-step : stepped s x .number ≡ 0 → NoneApplies (stepRefused s x)
+  zero-step e = none-first (stepRefused s x) (step-numbered s x) (sym step-number ∙ e)
+
+  -- 17 of an unsound state; of a sound one 11 to 14, then 21 to 28
+  pub unsound-number : soundOf s ≡ false → stepped s x .number ≡ 17
+  unfolding stepRefused
+  unsound-number h = step-number ∙ rw (h)
+
+  rest-number : soundOf s ≡ true → stepped s x .number ≡ firstOf (formRefused (s .sizes) x ++ turnRefused s x)
+  unfolding stepRefused
+  rest-number h = step-number ∙ rw (h)
+
+  pub form-number : soundOf s ≡ true → ¬ (firstOf (formRefused (s .sizes) x) ≡ 0) → stepped s x .number ≡ firstOf (formRefused (s .sizes) x)
+  form-number h n = rest-number h ∙ first-front (formRefused (s .sizes) x) (turnRefused s x) n
+
+  pub turn-number : soundOf s ≡ true → firstOf (formRefused (s .sizes) x) ≡ 0 → stepped s x .number ≡ firstOf (turnRefused s x)
+  turn-number h e = rest-number h ∙ first-append (formRefused (s .sizes) x) (turnRefused s x) e (form-numbered (s .sizes) x)
+
+-- ---- the fresh store
+
+module _ (z : Sizes) (table : List ℕ) where
+  -- "A refused fresh store comes back as a state of zeros"
+  made-cases : (n : ℕ) → (madeAs n z table .number ≡ n) × (n ≡ 0 → madeAs n z table .store ≡ freshOf z table) × (¬ (n ≡ 0) → madeAs n z table .store ≡ zeros)
+  made-cases zero = (refl, λ e. refl, λ e. absurd (e refl))
+  made-cases (suc n) = (refl, λ e. absurd (omega arith), λ e. refl)
+
+  pub made-number : made z table .number ≡ firstOf (freshRefused z table)
+  unfolding made
+  made-number = made-cases (firstOf (freshRefused z table)) .0
+
+  pub made-first : (k : ℕ) → Passed k (freshRefused z table) → testAt k (freshRefused z table) ≡ true → made z table .number ≡ numberAt k (freshRefused z table)
+  made-first k p e = made-number ∙ first-at k (freshRefused z table) p e
+
+  pub made-zero : NoneApplies (freshRefused z table) → made z table .number ≡ 0
+  made-zero h = made-number ∙ first-none (freshRefused z table) h
+
+  pub zero-made : made z table .number ≡ 0 → NoneApplies (freshRefused z table)
+  zero-made e = none-first (freshRefused z table) (fresh-numbered z table) (sym made-number ∙ e)
+
+  pub made-store : made z table .number ≡ 0 → made z table .store ≡ freshOf z table
+  unfolding made
+  made-store e = made-cases (firstOf (freshRefused z table)) .1 (sym made-number ∙ e)
+
+  pub made-zeros : ¬ (made z table .number ≡ 0) → made z table .store ≡ zeros
+  unfolding made
+  made-zeros n = made-cases (firstOf (freshRefused z table)) .2 (λ e. n (made-number ∙ e))
+
+  -- a fresh store that is not refused is sound, and a refused one unsound; both have the arrays' lengths
+  pub made-sound : made z table .number ≡ 0 → soundOf (made z table .store) ≡ true
+  made-sound e = rw (made-store e) (fresh-sound z table (sym made-number ∙ e))
+
+  pub made-unsound : ¬ (made z table .number ≡ 0) → soundOf (made z table .store) ≡ false
+  made-unsound n = rw (made-zeros n) zeros-unsound
+
+  pub made-shaped : Shaped (made z table .store)
+  made-shaped = at (eqb (made z table .number) 0) refl
+    where
+      at : (t : Bool) → eqb (made z table .number) 0 ≡ t → Shaped (made z table .store)
+      at true e =
+          let f : firstOf (freshRefused z table) ≡ 0 = sym made-number ∙ eqb-true _ 0 e in
+          let b = sizes-ranged z (fresh-sizes z table f) in
+          rw (made-store (eqb-true _ 0 e)) (fresh-shaped z table (omega (arith, fresh-table z table f)))
+      at false e = rw (made-zeros (eqb-false _ 0 e)) (fresh-shaped _ [] (omega arith))

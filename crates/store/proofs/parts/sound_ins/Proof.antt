@@ -1,0 +1,78 @@
+-- `store::parts::sound_ins` meets its contract. Assumes nothing.
+use mathlib.Core.Path.{_≡_, refl, ap, sym, _∙_}
+use native.Mathlib.Omega.{arith}
+use Prim.Native.Nat.{_+_, _-_, _<_, _≤_}
+use lib.ListN.{length, take, getD}
+use mathlib.Core.Bool.{true, false}
+use borrow.Author.Tests.{not-true, not-false}
+use Rattle.store.specs.Parts.{all, noIn}
+use Rattle.store.specs.Sound.{soundIn}
+use Rattle.store.proofs.Laws.{long}
+use Rattle.store.proofs.Tests.{all-more, all-miss}
+use borrow.Author.Needs.{needs}
+use Rattle.store.proofs.parts.sound_ins.Statement.{statement}
+use Rattle.store.proofs.parts.sound_ins.Tie as tie
+use Rattle.store.proofs.parts.sound_ins.Reads as reads
+use Rattle.store.proofs.parts.sound_ins.Lts as lts
+use Rattle.store.proofs.parts.sound_in.Reads as sound-in-reads
+
+abbrev Inv-loop : tie.InvT-loop
+Inv-loop z ins n k₀ k = (k ≤ n) × (all (soundIn z) (take k ins) ≡ true)
+
+abbrev μ-loop : tie.MeasureT-loop
+μ-loop z ins n k₀ k = n - k
+
+cast-n : tie.Need-cast-n Inv-loop μ-loop
+cast-n c = search needs
+
+loop-holds : tie.Need-loop-holds Inv-loop μ-loop
+loop-holds c = search needs
+
+mul-q : tie.Need-mul-q Inv-loop μ-loop
+mul-q c = search needs
+
+array-copy-out-q : tie.Need-array-copy-out-q Inv-loop μ-loop
+array-copy-out-q c = search needs
+
+sound-in-requires : tie.Need-sound-in-requires Inv-loop μ-loop
+sound-in-requires c κs = search needs
+
+returns : tie.Need-returns Inv-loop μ-loop
+returns c =
+    let a = c .before .before .before .before .before .before .args in
+    let h : length (a .t1) ≡ 8 = search (needs, long) in
+    sym (all-miss (soundIn (a .z)) (a .z .engines) (c .before .before .before .before .loop .k) (a .t1) noIn (omega arith) (omega arith) (sym (c .before .sound-in .ensures) ∙ not-true _ (c .if1 .taken)))
+
+add-k : tie.Need-add-k Inv-loop μ-loop
+add-k c = search needs
+
+loop-less : tie.Need-loop-less Inv-loop μ-loop
+loop-less c = search needs
+
+loop-again : tie.Need-loop-again Inv-loop μ-loop
+loop-again c =
+    let a = c .before .before .before .before .before .before .args in
+    let h : length (a .t1) ≡ 8 = search (needs, long) in
+    (search needs, all-more (soundIn (a .z)) (c .before .before .before .before .loop .k) (a .t1) noIn (omega arith) (c .before .before .before .before .loop .inv .1) (sym (c .before .sound-in .ensures) ∙ not-false _ (c .if1 .left)))
+
+returns-2 : tie.Need-returns-2 Inv-loop μ-loop
+returns-2 c =
+    let k : c .before .loop .k ≡ c .before .before .before .args .z .engines = omega arith in
+    cc
+
+pub sound-ins-spec : {M : Type 1} → statement M
+sound-ins-spec =
+    tie.close
+    (tie.spec
+    Inv-loop
+    μ-loop
+    cast-n
+    loop-holds
+    mul-q
+    array-copy-out-q
+    sound-in-requires
+    returns
+    add-k
+    loop-less
+    loop-again
+    returns-2)

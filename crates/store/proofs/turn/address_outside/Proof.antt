@@ -1,0 +1,20 @@
+-- `store::turn::address_outside` meets its contract. Assumes nothing.
+use mathlib.Core.Path.{_≡_, refl, ap, sym, _∙_}
+use borrow.Author.Needs.{needs}
+use Rattle.store.proofs.turn.address_outside.Statement.{statement}
+use Rattle.store.proofs.turn.address_outside.Tie as tie
+use Rattle.store.proofs.turn.address_outside.Reads as reads
+use Rattle.store.proofs.turn.address_outside.Lts as lts
+use Rattle.store.proofs.turn.uses_address.Reads as uses-address-reads
+
+uses-address-requires : tie.Need-uses-address-requires
+uses-address-requires c κs = search needs
+
+returns : tie.Need-returns
+returns c = rw (← (c .before .before .before .uses-address .ensures), c .before .before .if1 .taken)
+
+returns-2 : tie.Need-returns-2
+returns-2 c = rw (← (c .before .uses-address .ensures), c .if1 .left)
+
+pub address-outside-spec : {M : Type 1} → statement M
+address-outside-spec = tie.close (tie.spec uses-address-requires returns returns-2)

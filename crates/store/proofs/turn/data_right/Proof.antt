@@ -1,0 +1,17 @@
+-- `store::turn::data_right` meets its contract. Assumes nothing.
+use mathlib.Core.Path.{_≡_, refl, ap, sym, _∙_}
+use borrow.Author.Tests.{lt-ltb, le-ltb, le-leb, lt-leb, eq-eqb, ne-eqb, not-true, not-false}
+use borrow.Author.Needs.{needs}
+use Rattle.store.proofs.turn.data_right.Statement.{statement}
+use Rattle.store.proofs.turn.data_right.Tie as tie
+use Rattle.store.proofs.turn.data_right.Reads as reads
+use Rattle.store.proofs.turn.data_right.Lts as lts
+
+returns : tie.Need-returns
+returns c = rw (eq-eqb _ _ (c .if1 .taken))
+
+returns-2 : tie.Need-returns-2
+returns-2 c = rw (ne-eqb _ _ (c .before .if1 .left))
+
+pub data-right-spec : {M : Type 1} → statement M
+data-right-spec = tie.close (tie.spec returns returns-2)

@@ -1,0 +1,30 @@
+-- `store::turn::fields_right` meets its contract. Assumes nothing.
+use mathlib.Core.Path.{_≡_, refl, ap, sym, _∙_}
+use borrow.Author.Tests.{lt-ltb, le-ltb, le-leb, lt-leb, eq-eqb, ne-eqb, not-true, not-false}
+use borrow.Author.Needs.{needs}
+use Rattle.store.proofs.turn.fields_right.Statement.{statement}
+use Rattle.store.proofs.turn.fields_right.Tie as tie
+use Rattle.store.proofs.turn.fields_right.Reads as reads
+use Rattle.store.proofs.turn.fields_right.Lts as lts
+use Rattle.store.proofs.turn.address_right.Reads as address-right-reads
+use Rattle.store.proofs.turn.data_right.Reads as data-right-reads
+
+returns : tie.Need-returns
+returns c = rw (ne-eqb _ _ (c .if1 .taken))
+
+address-right-requires : tie.Need-address-right-requires
+address-right-requires c κs = search needs
+
+data-right-requires : tie.Need-data-right-requires
+data-right-requires c κs = search needs
+
+returns-2 : tie.Need-returns-2
+returns-2 c =
+    rw (eq-eqb _ _ (c .before .before .before .if1 .left), ← (c .before .before .address-right .ensures), c .before .if2 .taken) (c .data-right .ensures)
+
+returns-3 : tie.Need-returns-3
+returns-3 c = rw (eq-eqb _ _ (c .before .before .if1 .left), ← (c .before .address-right .ensures), c .if2 .left)
+
+pub fields-right-spec : {M : Type 1} → statement M
+fields-right-spec =
+    tie.close (tie.spec returns address-right-requires data-right-requires returns-2 returns-3)

@@ -1,0 +1,56 @@
+-- A store as a state of Figure 2, a record as one of its steps, a trace record as what happened. Assumes nothing.
+use mathlib.Core.Bool.{Bool, true, false}
+use mathlib.Core.List.{List, [], _∷_, map}
+use mathlib.Core.Option.{Option, none, some}
+use Prim.Native.Nat.{ℕ}
+use lib.Dec.{eqb}
+use Rattle.figure.specs.Account.{Event, refused, read, wrote, updated, refreshed, dropped}
+use Rattle.figure.specs.Account as account
+use Rattle.figure.specs.Figure.{Out, wr, In, up, Engine, State, Step, R}
+use Rattle.figure.specs.Refusals.{pick, firstOf}
+use Rattle.figure.specs.declared.Record.{Record}
+use Rattle.figure.specs.declared.Sizes.{Sizes}
+use Rattle.store.specs.Parts.{outOf, inOf, inCache, cachedValue}
+use Rattle.store.specs.Step.{outAt, inAt, cacheAt, memoryAt, formRefused, actionOf}
+use Rattle.store.specs.declared.Cache.{Cache}
+use Rattle.store.specs.declared.InEntry.{InEntry}
+use Rattle.store.specs.declared.OutEntry.{OutEntry}
+use Rattle.store.specs.declared.Store.{Store}
+
+abbrev pub outView : OutEntry → Out
+outView x = wr (x .address .0) (x .«data»)
+
+abbrev pub inView : InEntry → In
+inView x = up (x .origin .0) (x .address .0) (x .«data»)
+
+abbrev pub cacheView : Cache → ℕ → Option ℕ
+cacheView c a = pick (inCache c (record { 0 = a })) (some (cachedValue c (record { 0 = a }))) none
+
+abbrev pub engineView : Store → ℕ → Engine
+engineView s i =
+    record {
+      cache = cacheView (cacheAt s i);
+      outs = map outView (outOf (outAt s i));
+      ins = map inView (inOf (inAt s i));
+    }
+
+abbrev pub view : Store → State
+view s = record { memory = memoryAt s; engine = engineView s }
+
+-- a badly formed record is a step of engine 0, which is no engine
+abbrev pub stepView : Sizes → Record → Step
+stepView z x = pick (eqb (firstOf (formRefused z x)) 0) (actionOf x) (R 0 0)
+
+-- what happened, read off a trace record
+abbrev pub eventView : Record → Event
+eventView x =
+    let i = x .engine .0 in
+    let a = x .address .0 in
+    let d = x .«data» in
+    pick (eqb (x .kind) 1) (read i a d)
+    (pick (eqb (x .kind) 2) (wrote i a d)
+    (pick (eqb (x .kind) 3) (account.published i a d)
+    (pick (eqb (x .kind) 4) (refreshed i a d)
+    (pick (eqb (x .kind) 5) (updated i (x .origin .0) a d)
+    (pick (eqb (x .kind) 6) (dropped i a)
+    refused)))))

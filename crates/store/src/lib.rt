@@ -1,0 +1,287 @@
+// The store of the lazy caching protocol: fresh, sound, the step by value and in place, and many steps at once.
+ghost use mathlib.Core.Path.{_≡_};
+ghost use mathlib.Core.Bool.{true};
+ghost use Prim.Native.Nat.{_≤_, min};
+ghost use lib.ListN.{length, replicate};
+ghost use Rattle.lists.specs.Bytes.{laid};
+ghost use Rattle.store.specs.Fresh.{freshOf, zeros, made};
+ghost use Rattle.store.specs.Sound.{soundOf};
+ghost use Rattle.store.specs.Step.{stepped, answerOf};
+ghost use Rattle.store.specs.Turns.{bytesOf, turnsOf, Turned};
+ghost use Rattle.store.specs.Trace.{refusalRecord};
+
+mod parts;
+mod turn;
+
+use figure::Address;
+use figure::Engine;
+use figure::Record;
+use figure::Sizes;
+
+// An update on its way to a cache; origin 0: from memory.
+pub struct InEntry {
+    pub origin: Engine,
+    pub address: Address,
+    pub data: u32,
+}
+
+// A write on its way to memory.
+pub struct OutEntry {
+    pub address: Address,
+    pub data: u32,
+}
+
+pub struct Cache {
+    pub present: [bool; 64],
+    pub data: [u32; 64],
+}
+
+// The oldest entry stands at place 0.
+pub struct OutQueue {
+    pub len: u8,
+    pub entries: [OutEntry; 32],
+}
+
+pub struct InQueue {
+    pub len: u8,
+    pub entries: [InEntry; 32],
+}
+
+// Engine i's parts stand at place i - 1.
+pub struct Store {
+    pub sizes: Sizes,
+    pub memory: [u32; 64],
+    pub caches: [Cache; 8],
+    pub outs: [OutQueue; 8],
+    pub ins: [InQueue; 8],
+}
+
+// A fresh store, or the number of its refusal and zeros.
+pub struct Made {
+    pub number: u8,
+    pub store: Store,
+}
+
+// What a step answers, with the store after it, and without.
+pub struct Stepped {
+    pub number: u8,
+    pub store: Store,
+    pub event: Record,
+}
+
+pub struct Answer {
+    pub number: u8,
+    pub event: Record,
+}
+
+// A fresh store: 4, 5, 6 or 10 and zeros, or 0 and the given memory with empty caches and queues.
+pub fn fresh(z: Sizes, table: &[u32]) -> Made
+    ensures { λ r. ⌜ r ≡ made z (now (table .entry)) ⌝ }
+{
+    let number = figure::judge_sizes(z);
+    if number != 0 {
+        return Made {
+            number,
+            store: zero_store(),
+        };
+    }
+    if table.len() != z.addresses as usize {
+        return Made {
+            number: 10,
+            store: zero_store(),
+        };
+    }
+    Made {
+        number: 0,
+        store: filled_store(z, table),
+    }
+}
+
+fn filled_store(z: Sizes, table: &[u32]) -> Store
+    requires { ⌜ length (now table) ≤ 64 ⌝ }
+    ensures { λ r. ⌜ r ≡ freshOf z (now (table .entry)) ⌝ }
+{
+    let mut memory = [0u32; 64];
+    let mut i = 0;
+    while i < table.len() {
+        memory[i] = table[i];
+        i += 1;
+    }
+    let cache = Cache {
+        present: [false; 64],
+        data: [0; 64],
+    };
+    let out = OutQueue {
+        len: 0,
+        entries: [OutEntry {
+            address: Address(0),
+            data: 0,
+        }; 32],
+    };
+    let into = InQueue {
+        len: 0,
+        entries: [InEntry {
+            origin: Engine(0),
+            address: Address(0),
+            data: 0,
+        }; 32],
+    };
+    Store {
+        sizes: z,
+        memory,
+        caches: [cache; 8],
+        outs: [out; 8],
+        ins: [into; 8],
+    }
+}
+
+fn zero_store() -> Store
+    ensures { λ r. ⌜ r ≡ zeros ⌝ }
+{
+    let none = [0u32; 0];
+    let z = Sizes {
+        engines: 0,
+        addresses: 0,
+        depth: 0,
+    };
+    filled_store(z, &none)
+}
+
+// The test of refusal 17.
+pub fn sound(s: Store) -> bool
+    ensures { λ r. ⌜ r ≡ soundOf s ⌝ }
+{
+    let z = s.sizes;
+    if figure::judge_sizes(z) != 0 {
+        return false;
+    }
+    let outs = s.outs;
+    if !parts::sound_outs(outs, z) {
+        return false;
+    }
+    let ins = s.ins;
+    parts::sound_ins(ins, z)
+}
+
+// Each action in turn as the step takes it; its trace goes over the front of the lent buffer.
+pub fn turns(s: Store, actions: &[u8], trace: &mut [u8]) -> Store
+    ensures { λ r. ⌜ Turned s (now (actions .entry)) (now (trace .entry)) r (now (trace .exit)) ⌝ }
+{
+    if sound(s) {
+        return sound_turns(s, actions, trace);
+    }
+    refuse_all(actions, trace);
+    s
+}
+
+fn least(a: usize, b: usize) -> usize
+    ensures { λ r. ⌜ r ≡ min a b ⌝ }
+{
+    if a < b { a } else { b }
+}
+
+// Every action from an unsound state is refused with 17.
+fn refuse_all(actions: &[u8], trace: &mut [u8])
+    ensures { λ _. ⌜ now (trace .exit) ≡ laid (bytesOf (replicate (turnsOf (now (actions .entry)) (now (trace .entry))) (refusalRecord 17))) (now (trace .entry)) ⌝ }
+{
+    let n = least(actions.len() / 8, trace.len() / 8);
+    let no = turn::traced(turn::refuse(17));
+    let mut i = 0;
+    while i < n {
+        lists::bytes::put_record(trace, 8 * i, no);
+        i += 1;
+    }
+}
+
+// The store stays in this function: a part is taken out, changed, and put back.
+fn sound_turns(s: Store, actions: &[u8], trace: &mut [u8]) -> Store
+    requires { ⌜ soundOf s ≡ true ⌝ }
+    ensures { λ r. ⌜ Turned s (now (actions .entry)) (now (trace .entry)) r (now (trace .exit)) ⌝ }
+{
+    let n = least(actions.len() / 8, trace.len() / 8);
+    let mut t = s;
+    let mut i = 0;
+    while i < n {
+        let z = t.sizes;
+        let x = lists::bytes::record_at(actions, 8 * i);
+        let form = turn::judge_form(z, x);
+        let kind = turn::kind_of(form, x);
+        let k = turn::place_of(x.engine);
+        let said = match kind {
+            1 => turn::try_read(t.caches[k], t.outs[k].len, t.ins[k], x),
+            2 => {
+                let w = turn::try_write(t.outs[k], z.depth, x);
+                let q = w.queue;
+                t.outs[k] = q;
+                w.said
+            }
+            3 => {
+                let w = turn::try_publish(t.outs[k], t.ins, z, x);
+                let q = w.queue;
+                t.outs[k] = q;
+                t.memory = turn::memory_after(t.memory, w.said);
+                t.ins = turn::ins_after(t.ins, z.engines, x, w.said);
+                w.said
+            }
+            4 => {
+                let at = x.address.0 as usize;
+                let w = turn::try_refresh(t.ins[k], z.depth, t.memory[at], x);
+                let q = w.queue;
+                t.ins[k] = q;
+                w.said
+            }
+            5 => {
+                let w = turn::try_update(t.caches[k], t.ins[k], x);
+                let c = w.cache;
+                t.caches[k] = c;
+                let q = w.queue;
+                t.ins[k] = q;
+                w.said
+            }
+            6 => {
+                t.caches[k] = parts::drop_cached(t.caches[k], x.address);
+                turn::accept(x)
+            }
+            _ => turn::refuse(form),
+        };
+        lists::bytes::put_record(trace, 8 * i, turn::traced(said));
+        i += 1;
+    }
+    t
+}
+
+// One step: the store and the action in, the number, the store and the event out.
+pub fn step(s: Store, x: Record) -> Stepped
+    ensures { λ r. ⌜ r ≡ stepped s x ⌝ }
+{
+    let mut action = [0u8; 8];
+    lists::bytes::put_record(&mut action, 0, x);
+    let mut trace = [0u8; 8];
+    let t = turns(s, &action, &mut trace);
+    let e = lists::bytes::record_at(&trace, 0);
+    if e.kind == 0 {
+        return Stepped {
+            number: e.engine.0,
+            store: t,
+            event: figure::no_record(),
+        };
+    }
+    Stepped {
+        number: 0,
+        store: t,
+        event: e,
+    }
+}
+
+// The same over a store that the scope keeps: it is taken out, stepped by value and put back.
+pub fn step_in_place(s: &mut Store, x: Record) -> Answer
+    ensures { λ r. ⌜ (now (s .exit) ≡ stepped (now (s .entry)) x .store) × (r ≡ answerOf (stepped (now (s .entry)) x)) ⌝ }
+{
+    let v = *s;
+    let t = step(v, x);
+    *s = t.store;
+    Answer {
+        number: t.number,
+        event: t.event,
+    }
+}
