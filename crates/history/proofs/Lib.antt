@@ -1,3 +1,4 @@
+pub mod Demands
 pub mod Sorted
 pub mod Passes
 pub mod Marking

@@ -69,15 +69,17 @@ countsAs (suc n) list = record { number = suc n; accepted = 0; refused = 0; even
 
 -- ---- the refusals
 
--- "It refuses with the reader's numbers; then 29, trace buffer shorter than 8 bytes an action; 30, account buffer shorter than 12
--- bytes an account event; 31, the account it built is not serial."
-unfoldable pub runRefused : List ℕ → ℕ → ℕ → List Refusal
-runRefused list trace-room account-room =
-    readRefused list
-    ++ 29 when ltb trace-room (recordWidth * readOf list .actions)
+-- "then 29, trace buffer shorter than 8 bytes an action; 30, account buffer shorter than 12 bytes an account event; 31, the account it built is not serial."
+abbrev pub ownRefused : List ℕ → ℕ → ℕ → List Refusal
+ownRefused list trace-room account-room =
+    29 when ltb trace-room (recordWidth * readOf list .actions)
     ∷ 30 when ltb account-room (lineWidth * length (account (runSizes list) (runBook list)))
     ∷ 31 when not (serial? (λ a. getD (memoryOf list) a 0) (account (runSizes list) (runBook list)))
     ∷ []
+
+-- "It refuses with the reader's numbers", then its own
+unfoldable pub runRefused : List ℕ → ℕ → ℕ → List Refusal
+runRefused list trace-room account-room = readRefused list ++ ownRefused list trace-room account-room
 
 unfoldable pub runNumber : List ℕ → List ℕ → List ℕ → ℕ
 runNumber list trace account = firstOf (runRefused list (length trace) (length account))
