@@ -15,6 +15,6 @@ pub mod Tests
 pub mod Says
 pub mod Arms
 pub mod Turning
-pub mod Once
+pub mod OneTurn
 -- what each contract decides
 pub mod Unique

@@ -285,3 +285,16 @@ pub fn step_in_place(s: &mut Store, x: Record) -> Answer
         event: t.event,
     }
 }
+
+// The step in place for callers that hold no store to lend: a local is lent.
+pub fn once(s: Store, x: Record) -> Stepped
+    ensures { λ r. ⌜ r ≡ stepped s x ⌝ }
+{
+    let mut t = s;
+    let n = step_in_place(&mut t, x);
+    Stepped {
+        number: n.number,
+        store: t,
+        event: n.event,
+    }
+}

@@ -1,6 +1,6 @@
 -- `store::step` meets its contract. Assumes nothing.
 use mathlib.Core.Path.{_≡_, refl, ap, sym, _∙_}
-use Rattle.store.proofs.Once.{once-no, once-yes}
+use Rattle.store.proofs.OneTurn.{once-no, once-yes}
 use borrow.Author.Needs.{needs}
 use Rattle.store.proofs.step.Statement.{statement}
 use Rattle.store.proofs.step.Tie as tie

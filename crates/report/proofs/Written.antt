@@ -1,0 +1,108 @@
+-- Text after text in a buffer. Assumes nothing.
+use mathlib.Core.Path.{_≡_, refl, sym, ap, _∙_}
+use mathlib.Core.List.{List, [], _∷_, _++_, append-nil, append-assoc}
+use Prim.Native.Nat.{ℕ, suc, _+_, _≤_, _<_, zero-le}
+use native.Mathlib.Nat.{add-zero, add-suc, suc-add}
+use native.Mathlib.Numerals.{add-one}
+use native.Mathlib.Omega.{arith}
+use lib.ListN.{length, getD, set, take, length-append, length-set}
+use lib.Seq.{set-comm, take-suc, length-take-le, take-length}
+use Rattle.report.specs.Text.{written, Wrote, Room}
+
+pub length-written : (old : List ℕ) (i : ℕ) (text : List ℕ) → length (written old i text) ≡ length old
+unfolding written
+length-written old i [] = refl
+length-written old i (b ∷ bs) = length-written (set old i b) (suc i) bs ∙ length-set old i b
+
+pub written-append : (old : List ℕ) (i : ℕ) (xs ys : List ℕ) → written (written old i xs) (i + length xs) ys ≡ written old i (xs ++ ys)
+unfolding written
+written-append old i [] ys = rw (add-zero i)
+written-append old i (x ∷ xs) ys = rw (add-suc, ← (suc-add i (length xs))) (written-append (set old i x) (suc i) xs ys)
+
+-- a byte before the text, set after the text or before it
+pub written-before : (old : List ℕ) (i j b : ℕ) (text : List ℕ) → i < j → set (written old j text) i b ≡ written (set old i b) j text
+unfolding written
+written-before old i j b [] h = refl
+written-before old i j b (x ∷ xs) h =
+    written-before (set old j x) i (suc j) b xs (omega arith)
+    ∙ rw (set-comm old j i x b (λ e. omega arith))
+
+-- ---- texts one after another
+
+pub wrote-append : {xs ys old mid new : List ℕ} {i r s : ℕ} → Wrote xs old i r mid → Wrote ys mid r s new → Wrote (xs ++ ys) old i s new
+wrote-append {xs} {ys} {old} {mid} {new} {i} {r} {s} w v =
+    record {
+      place = omega (arith, v .place, w .place, length-append xs ys);
+      bytes = v .bytes ∙ rw (w .bytes, w .place) (written-append old i xs ys);
+    }
+
+pub wrote-one : {b i : ℕ} {old new : List ℕ} → new ≡ set old i b → Wrote (b ∷ []) old i (i + 1) new
+unfolding written
+wrote-one e = record { place = refl; bytes = e }
+
+pub wrote-two : {a b i : ℕ} {old mid new : List ℕ} → mid ≡ set old i a → new ≡ set mid (i + 1) b → Wrote (a ∷ b ∷ []) old i (i + 2) new
+unfolding written
+wrote-two {a} {b} {i} e f = record { place = refl; bytes = f ∙ rw (e, add-one i) }
+
+pub wrote-long : {text old new : List ℕ} {i r : ℕ} → Wrote text old i r new → length new ≡ length old
+wrote-long {text} {old} {new} {i} w = ap length (w .bytes) ∙ length-written old i text
+
+-- texts one after another: `t ++ u ++ v` for `t ∷ u ∷ v ∷ []`
+unfoldable pub after : List ℕ → List (List ℕ) → List ℕ
+after t [] = t
+after t (u ∷ ts) = after (t ++ u) ts
+
+unfoldable pub joined : List (List ℕ) → List ℕ
+joined [] = []
+joined (t ∷ ts) = after t ts
+
+-- room for each of them
+pub record Rooms (i : ℕ) (ts : List (List ℕ)) : Type 0 where
+  pub all : Room i (joined ts)
+
+after-joined : (t : List ℕ) (ts : List (List ℕ)) → after t ts ≡ t ++ joined ts
+unfolding after joined
+after-joined t [] = sym (append-nil t)
+after-joined t (u ∷ ts) = after-joined (t ++ u) ts ∙ (append-assoc t u (joined ts) ∙ ap (λ (x : List ℕ). t ++ x) (sym (after-joined u ts)))
+
+length-joined : (t : List ℕ) (ts : List (List ℕ)) → length (joined (t ∷ ts)) ≡ length t + length (joined ts)
+unfolding joined
+length-joined t ts = ap length (after-joined t ts) ∙ length-append t (joined ts)
+
+pub room-first : {i : ℕ} {t : List ℕ} {ts : List (List ℕ)} → Rooms i (t ∷ ts) → Room i t
+room-first {i} {t} {ts} p = record { fits = omega (arith, p .all .fits, length-joined t ts) }
+
+-- room for the texts after the first, at the place after it
+pub rooms-after : {i r : ℕ} {t : List ℕ} {ts : List (List ℕ)} → Rooms i (t ∷ ts) → r ≡ i + length t → Rooms r ts
+rooms-after {i} {r} {t} {ts} p e = record { all = record { fits = omega (arith, p .all .fits, length-joined t ts) } }
+
+-- ---- the loop of `put_text`: the first k bytes of the text are written
+pub record Putting (text old : List ℕ) (i : ℕ) (out : List ℕ) (k : ℕ) : Type 0 where
+  pub upto : k ≤ length text
+  pub room : Room i text
+  pub out-is : out ≡ written old i (take k text)
+
+module _ {text old : List ℕ} {i : ℕ} where
+  pub putting-none : Room i text → Putting text old i old 0
+  unfolding written
+  putting-none p = record { upto = zero-le; room = p; out-is = refl }
+
+  pub putting-more : {out out′ : List ℕ} {k : ℕ} → Putting text old i out k → k < length text → out′ ≡ set out (i + k) (getD text k 0) → Putting text old i out′ (k + 1)
+  unfolding written
+  putting-more {out} {out′} {k} p h e =
+      let b = getD text k 0 in
+      let more : take (k + 1) text ≡ take k text ++ (b ∷ []) = rw (add-one) (take-suc text k 0 h) in
+      let here : i + k ≡ i + length (take k text) = ap (λ (n : ℕ). i + n) (sym (length-take-le k text (p .upto))) in
+      record {
+        upto = omega arith;
+        room = p .room;
+        out-is = e ∙ rw (more, p .out-is, here) (written-append old i (take k text) (b ∷ []));
+      }
+
+  pub putting-long : {out : List ℕ} {k : ℕ} → Putting text old i out k → length out ≡ length old
+  putting-long {out} {k} p = ap length (p .out-is) ∙ length-written old i (take k text)
+
+  pub putting-all : {out : List ℕ} {k : ℕ} → Putting text old i out k → length text ≤ k → Wrote text old i (i + k) out
+  putting-all {out} {k} p h =
+      let e : k ≡ length text = omega (arith, p .upto) in
+      record { place = ap (λ (n : ℕ). i + n) e; bytes = p .out-is ∙ rw (e, take-length text) }

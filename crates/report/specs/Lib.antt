@@ -1,0 +1,6 @@
+-- what a reader must believe, in the order of document 01
+pub mod Text
+pub mod Decimal
+pub mod Hex
+pub mod Account
+pub mod Show
