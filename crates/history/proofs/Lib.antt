@@ -1,4 +1,5 @@
 pub mod Demands
+pub mod Unique
 pub mod Sorted
 pub mod Passes
 pub mod Marking
