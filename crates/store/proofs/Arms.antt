@@ -1,10 +1,10 @@
 -- One turn of the loop: what it knows of a sound store and a well-formed record, and that each kind's parts make up the step's answer. Assumes nothing.
-use mathlib.Core.Path.{_≡_, refl, sym, ap, _∙_}
-use mathlib.Core.Bool.{Bool, true, false, not}
-use mathlib.Core.List.{List, [], _∷_, _++_}
+use mathlib.Core.Path.{_≡_, refl, sym, _∙_}
+use mathlib.Core.Bool.{Bool, true, false}
+use mathlib.Core.List.{List, [], _∷_}
 use Prim.Native.Nat.{ℕ, zero, suc, pred, _≤_, _<_}
 use native.Mathlib.Omega.{arith}
-use lib.Dec.{eqb, leb, ltb}
+use lib.Dec.{eqb, leb}
 use lib.ListN.{take, set, getD}
 use lib.Seq.{getD-take, set-getD}
 use borrow.Author.Tests.{ltb-true, lt-ltb, leb-true, le-leb, leb-false, lt-leb}
@@ -13,12 +13,12 @@ use Rattle.figure.specs.Refusals.{firstOf, _when_}
 use Rattle.figure.specs.declared.Record.{Record}
 use Rattle.figure.specs.declared.Sizes.{Sizes}
 use Rattle.figure.specs.Figure.{Step}
-use Rattle.figure.proofs.First.{Numbered, first-append, first-front}
+use Rattle.figure.proofs.First.{first-append, first-front}
 use Rattle.figure.proofs.Laws.{and-left, and-right}
-use Rattle.store.specs.Parts.{any, outOf, inOf, full, firsts, outJoined, outLeft, inJoined, inLeft, cached, dropped, cachedValue, noOut, noIn, noCache, noOutEntry, noInEntry}
-use Rattle.store.specs.Pieces.{saying, unless, readRefused, readTurn, writeTurn, someFull, publishTurn, publishRefused, refreshTurn, updateTurn, toldOf, insAfter, memoryAfter}
+use Rattle.store.specs.Parts.{outOf, inOf, full, firsts, outJoined, outLeft, inJoined, inLeft, cached, dropped, cachedValue, noOut, noIn, noCache, noOutEntry, noInEntry}
+use Rattle.store.specs.Pieces.{saying, unless, readRefused, readTurn, writeTurn, someFull, publishTurn, publishRefused, refreshTurn, updateTurn, toldEntry}
 use Rattle.store.specs.Sound.{soundOf, soundIn, soundInEntry}
-use Rattle.store.specs.Step.{outAt, inAt, cacheAt, oldestOut, memoryAt, formRefused, turnRefused, stepRefused, actionOf, answered, stepped, answerOf, withOuts, withIns, withCaches, outEntry, inEntry, filled}
+use Rattle.store.specs.Step.{outAt, inAt, cacheAt, oldestOut, memoryAt, formRefused, turnRefused, stepRefused, answered, stepped, answerOf, withOuts, withIns, withCaches, outEntry, inEntry, filled}
 use Rattle.store.specs.declared.Answer.{Answer}
 use Rattle.store.specs.declared.Cache.{Cache}
 use Rattle.store.specs.declared.InEntry.{InEntry}
@@ -145,18 +145,25 @@ module _ (t : Store) (x : Record) where
   writes zero k = rw (k, change-set place (outJoined (outEntry (x .address .0) (x .«data»))) (t .outs) noOut) (record { store = refl; answer = refl })
   writes (suc n) k = rw (set-getD (t .outs) place noOut) (record { store = refl; answer = refl })
 
-  publishes : (n : ℕ) → x .kind ≡ 3 → (let said = saying n (filled x (inEntry 0 (oldestOut t (x .engine .0) .address .0) (oldestOut t (x .engine .0) .«data»))) in
-      Did (answered n t x)
+  abbrev publishing : ℕ → Answer
+  publishing n = saying n (filled x (inEntry 0 (oldestOut t (x .engine .0) .address .0) (oldestOut t (x .engine .0) .«data»)))
+
+  publishes : (n : ℕ) → x .kind ≡ 3 → publishing n .number ≡ 0
+      → Did (answered n t x)
       (record {
         sizes = t .sizes;
-        memory = memoryAfter (t .memory) said;
+        memory = set (t .memory) (publishing n .event .address .0) (publishing n .event .«data»);
         caches = t .caches;
         outs = set (t .outs) place (unless n (outLeft out) out);
-        ins = insAfter (t .ins) (t .sizes .engines) x said;
+        ins = firsts (t .sizes .engines) (inJoined (toldEntry x (publishing n))) (t .ins);
       })
-      said)
-  publishes zero k = rw (k, change-set place outLeft (t .outs) noOut) (record { store = refl; answer = refl })
-  publishes (suc n) k = rw (set-getD (t .outs) place noOut) (record { store = refl; answer = refl })
+      (publishing n)
+  publishes zero k a = rw (k, change-set place outLeft (t .outs) noOut) (record { store = refl; answer = refl })
+  publishes (suc n) k a = absurd (omega arith)
+
+  blocks : (n : ℕ) → ¬ (publishing n .number ≡ 0) → Did (answered n t x) (withOuts t (set (t .outs) place (unless n (outLeft out) out))) (publishing n)
+  blocks zero a = absurd (a refl)
+  blocks (suc n) a = rw (set-getD (t .outs) place noOut) (record { store = refl; answer = refl })
 
   refreshes : (n : ℕ) → x .kind ≡ 4 → (let e = inEntry 0 (x .address .0) (memoryAt t (x .address .0)) in
       Did (answered n t x) (withIns t (set (t .ins) place (unless n (inJoined e into) into))) (saying n (filled x e)))
@@ -215,21 +222,33 @@ module _ (t : Store) (x : Record) (h : soundOf t ≡ true) where
           at y zero a = a
           at y (suc n) a = omega arith
 
-      pub told-room : (toldOf (t .sizes .engines) (w .said) ≤ 8) × ((j : ℕ) → j < toldOf (t .sizes .engines) (w .said) → getD (t .ins) j noIn .len < 32)
-      told-room = rw (e) (at _ (eqb (getD (t .outs) k noOut .len) 0) (someFull (t .ins) (t .sizes)) refl)
+      pub told-room : w .said .number ≡ 0 → (t .sizes .engines ≤ 8) × ((j : ℕ) → j < t .sizes .engines → getD (t .ins) j noIn .len < 32)
+      told-room a = (ready .engines, roomy (at _ (eqb (getD (t .outs) k noOut .len) 0) (someFull (t .ins) (t .sizes)) refl (rw (e) at a)))
         where
-          at : (y : Record) (o b : Bool) → someFull (t .ins) (t .sizes) ≡ b
-              → (let n = unless (saying (firstOf (25 when o ∷ 26 when b ∷ [])) y .number) (t .sizes .engines) 0 in (n ≤ 8) × ((j : ℕ) → j < n → getD (t .ins) j noIn .len < 32))
-          at y true b a = (omega arith, λ j h. absurd (omega arith))
-          at y false true a = (omega arith, λ j h. absurd (omega arith))
-          at y false false a = (ready .engines, roomy a)
+          at : (y : Record) (o b : Bool) → someFull (t .ins) (t .sizes) ≡ b → saying (firstOf (25 when o ∷ 26 when b ∷ [])) y .number ≡ 0 → someFull (t .ins) (t .sizes) ≡ false
+          at y true b f a = absurd (omega arith)
+          at y false true f a = absurd (omega arith)
+          at y false false f a = f
 
-      pub did-publish : {m : List ℕ} {l : List InQueue} → x .kind ≡ 3 → m ≡ memoryAfter (t .memory) (w .said) → l ≡ insAfter (t .ins) (t .sizes .engines) x (w .said)
-          → Did (stepped t x) (record { sizes = t .sizes; memory = m; caches = t .caches; outs = set (t .outs) k (w .queue); ins = l }) (w .said)
-      unfolding turnRefused
-      did-publish d em el =
-          let n : firstOf (turnRefused t x) ≡ firstOf (publishRefused (out t x) (someFull (t .ins) (t .sizes))) = rw (d) in
-          rw (in-turn, n, el, em, e, i) (publishes t x (firstOf (publishRefused (out t x) (someFull (t .ins) (t .sizes)))) d)
+      module _ (d : x .kind ≡ 3) where
+        publish-first : firstOf (turnRefused t x) ≡ firstOf (publishRefused (out t x) (someFull (t .ins) (t .sizes)))
+        unfolding turnRefused
+        publish-first = rw (d)
+
+        pub did-publish : {y : InEntry} {l : List InQueue} → w .said .number ≡ 0 → y ≡ toldEntry x (w .said) → l ≡ firsts (t .sizes .engines) (inJoined y) (t .ins)
+            → Did (stepped t x)
+            (record {
+              sizes = t .sizes;
+              memory = set (t .memory) (w .said .event .address .0) (w .said .event .«data»);
+              caches = t .caches;
+              outs = set (t .outs) k (w .queue);
+              ins = l;
+            })
+            (w .said)
+        did-publish a ey el = rw (in-turn, publish-first, el, ey, e, i) (publishes t x (firstOf (publishRefused (out t x) (someFull (t .ins) (t .sizes)))) d (rw (e, i) at a))
+
+        pub did-block : ¬ (w .said .number ≡ 0) → Did (stepped t x) (withOuts t (set (t .outs) k (w .queue))) (w .said)
+        did-block a = rw (in-turn, publish-first, e, i) (blocks t x (firstOf (publishRefused (out t x) (someFull (t .ins) (t .sizes)))) (rw (e, i) at a))
 
     pub did-refresh : {w : InTurn} → x .kind ≡ 4 → w ≡ refreshTurn (getD (t .ins) k noIn) (t .sizes .depth) (getD (t .memory) (x .address .0) 0) x → Did (stepped t x) (withIns t (set (t .ins) k (w .queue))) (w .said)
     unfolding turnRefused

@@ -1,13 +1,14 @@
--- Laws on a queue in an array, at any type of element.
+-- Laws on a queue in an array, at any type of element: what a loop over its places has made of it after i turns. Assumes nothing.
 use mathlib.Core.Path.{_≡_, refl, ap, sym, _∙_}
 use mathlib.Core.List.{List, [], _∷_, _++_, append-assoc, map, tail}
 use Prim.Native.Nat.{ℕ, zero, suc, _+_, _-_, _≤_, _<_}
 use native.Mathlib.Numerals.{add-one, sub-one}
 use native.Mathlib.Nat.{add-comm, not-suc-le-zero}
 use native.Mathlib.Omega.{arith}
-use lib.ListN.{length, take, drop, set, getD, length-append, length-take, length-drop, length-set, length-map}
-use lib.Seq.{set-split, length-take-le, append-snoc, drop-drop, drop-cons, take-suc, set-at, getD-drop, getD-at, getD-append-add, drop-at}
+use lib.ListN.{length, take, drop, set, getD, length-append, length-take, length-drop, length-map}
+use lib.Seq.{set-split, length-take-le, drop-cons, take-suc, set-at, getD-drop, getD-at, getD-append-add}
 use Rattle.store.specs.Parts.{over, change, firsts}
+use Rattle.store.proofs.Places.{map-end}
 
 module _ {A : Type 0} where
   -- one more at the end
@@ -30,11 +31,8 @@ module _ {A : Type 0} where
   abbrev pub shifted : ℕ → List A → List A
   shifted i es = take i (drop 1 es) ++ drop i es
 
-  pub shift-length : (i : ℕ) (es : List A) → i < length es → length (take i (drop 1 es)) ≡ i
+  shift-length : (i : ℕ) (es : List A) → i < length es → length (take i (drop 1 es)) ≡ i
   shift-length i es h = simp (length-take, length-drop) (omega arith)
-
-  pub shifted-length : (i : ℕ) (es : List A) → i < length es → length (shifted i es) ≡ length es
-  shifted-length i es h = simp (length-append, length-take, length-drop) (omega arith)
 
   pub shift-more : (i : ℕ) (es : List A) (d : A) → i + 1 < length es → set (shifted i es) i (getD (shifted i es) (i + 1) d) ≡ shifted (i + 1) es
   shift-more i es d h =
@@ -48,11 +46,11 @@ module _ {A : Type 0} where
       ∙ set-at (take i (drop 1 es)) _ _ _ i l
       ∙ rw (add-one, t, append-assoc, v, add-one)
 
-  pub left-over : (m : ℕ) (es : List A) → suc m ≤ length es → shifted m es ≡ over (tail (take (suc m) es)) es
+  left-over : (m : ℕ) (es : List A) → suc m ≤ length es → shifted m es ≡ over (tail (take (suc m) es)) es
   left-over m [] h = absurd (not-suc-le-zero h)
   left-over m (x ∷ xs) h = ap (λ (k : ℕ). take m xs ++ drop k (x ∷ xs)) (sym (length-take-le m xs (omega arith)))
 
-  pub left-length : (m : ℕ) (es : List A) → suc m ≤ length es → m ≡ length (tail (take (suc m) es))
+  left-length : (m : ℕ) (es : List A) → suc m ≤ length es → m ≡ length (tail (take (suc m) es))
   left-length m [] h = absurd (not-suc-le-zero h)
   left-length m (x ∷ xs) h = sym (length-take-le m xs (omega arith))
 
@@ -72,10 +70,6 @@ module _ {A : Type 0} where
   pub firsts-at : (f : A → A) (i : ℕ) (l : List A) (d : A) → i < length l → getD (firsts i f l) i d ≡ getD l i d
   firsts-at f i l d h =
       ap (λ (y : List A). getD (map f (take i l) ++ y) i d) (drop-cons l i d h) ∙ getD-at (map f (take i l)) (getD l i d) (drop (suc i) l) d i (firsts-length f i l (omega arith))
-
-  map-end : (f : A → A) (l : List A) (x : A) → map f (l ++ (x ∷ [])) ≡ map f l ++ (f x ∷ [])
-  map-end f [] x = refl
-  map-end f (y ∷ l) x = ap (λ (t : List A). f y ∷ t) (map-end f l x)
 
   pub firsts-more : (f : A → A) (i : ℕ) (l : List A) (d : A) → i < length l → set (firsts i f l) i (f (getD (firsts i f l) i d)) ≡ firsts (i + 1) f l
   firsts-more f i l d h =

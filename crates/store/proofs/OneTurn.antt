@@ -1,7 +1,7 @@
 -- One step by way of one turn: the action's bytes in, the trace's bytes out. Assumes nothing.
-use mathlib.Core.Path.{_≡_, refl, sym, ap, _∙_}
-use mathlib.Core.List.{List, [], _∷_, _++_}
-use Prim.Native.Nat.{ℕ, zero, suc, _≤_}
+use mathlib.Core.Path.{_≡_, sym, ap, _∙_}
+use mathlib.Core.List.{List, []}
+use Prim.Native.Nat.{ℕ}
 use native.Mathlib.Omega.{arith}
 use lib.ListN.{length, replicate}
 use Rattle.figure.specs.Figure.{Step}
@@ -33,11 +33,11 @@ module _ (s : Store) (x : Record) {actions trace : List ℕ} {t : Store} (ea : a
   one : turnsOf actions zeros8 ≡ 1
   one = let n : length actions ≡ 8 = rw (ea) (length-put zeros8 0 (recordBytes x)) in rw (n)
 
-  pub once-store : t ≡ stepped s x .store
+  once-store : t ≡ stepped s x .store
   unfolding storeAfter
   once-store = h .store ∙ ap (storeAfter s (actionAt actions)) one ∙ ap (λ (y : Record). stepped s y .store) action-is
 
-  pub once-event : recordAt trace 0 ≡ traced (stepped s x)
+  once-event : recordAt trace 0 ≡ traced (stepped s x)
   unfolding traceAfter storeAfter rows
   once-event =
       ap (λ (l : List ℕ). recordAt l 0) (h .trace-is ∙ ap (λ (n : ℕ). laid (bytesOf (traceAfter s (actionAt actions) n)) zeros8) one)

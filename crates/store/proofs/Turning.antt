@@ -1,8 +1,8 @@
 -- Many steps, turn by turn: the store and the trace after i of them. Assumes nothing.
 use mathlib.Core.Path.{_≡_, refl, sym, ap, _∙_}
 use mathlib.Core.Bool.{true, false}
-use mathlib.Core.List.{List, [], _∷_, _++_, append-assoc, append-nil}
-use Prim.Native.Nat.{ℕ, zero, suc, min, _+_, _*_, _/_, _≤_, _<_}
+use mathlib.Core.List.{List, [], _∷_, _++_, append-nil}
+use Prim.Native.Nat.{ℕ, zero, suc, _+_, _*_, _≤_, _<_}
 use native.Mathlib.Numerals.{add-one}
 use native.Mathlib.Omega.{arith}
 use lib.ListN.{length, replicate, length-append, length-replicate}
@@ -13,7 +13,7 @@ use Rattle.lists.specs.Record.{recordBytes}
 use Rattle.lists.proofs.Put.{laid-put, laid-none, length-laid}
 use Rattle.lists.proofs.Rows.{rows-append, length-rows}
 use Rattle.store.specs.Sound.{soundOf}
-use Rattle.store.specs.Step.{stepped, stepRefused, answerOf}
+use Rattle.store.specs.Step.{stepped, stepRefused}
 use Rattle.store.specs.Trace.{traced, tracedAs, refusalRecord}
 use Rattle.store.specs.Turns.{actionAt, storeAfter, traceAfter, bytesOf, turnsOf, Turned}
 use Rattle.store.specs.declared.Answer.{Answer}
@@ -32,7 +32,7 @@ unfolding rows
 bytes-end rs r = rows-append recordBytes rs (r ∷ []) ∙ rw (append-nil)
 
 -- one record more, put just past i records
-pub put-next : (rs : List Record) (r : Record) (i : ℕ) (old : List ℕ) → length rs ≡ i → 8 * i + 8 ≤ length old
+put-next : (rs : List Record) (r : Record) (i : ℕ) (old : List ℕ) → length rs ≡ i → 8 * i + 8 ≤ length old
     → put (laid (bytesOf rs) old) (8 * i) (recordBytes r) ≡ laid (bytesOf (rs ++ (r ∷ []))) old
 put-next rs r i old e h =
     let n : length (bytesOf rs) ≡ 8 * i = length-bytes rs ∙ ap (λ (k : ℕ). 8 * k) e in
@@ -49,7 +49,7 @@ room actions old e = (omega arith, omega arith)
 -- ---- the loop over a sound store
 
 module _ (s : Store) (x : ℕ → Record) where
-  pub length-trace : (i : ℕ) → length (traceAfter s x i) ≡ i
+  length-trace : (i : ℕ) → length (traceAfter s x i) ≡ i
   unfolding traceAfter
   length-trace zero = refl
   length-trace (suc i) = rw (length-append (traceAfter s x i) _, length-trace i) (omega arith)
@@ -109,12 +109,12 @@ replicate-end zero a = refl
 replicate-end (suc n) a = ap (λ (l : List _). a ∷ l) (replicate-end n a)
 
 module _ (s : Store) (x : ℕ → Record) (h : soundOf s ≡ false) where
-  pub unsound-store : (n : ℕ) → storeAfter s x n ≡ s
+  unsound-store : (n : ℕ) → storeAfter s x n ≡ s
   unfolding storeAfter
   unsound-store zero = refl
   unsound-store (suc n) = ap (λ (u : Store). stepped u (x n) .store) (unsound-store n) ∙ ap (λ (r : Stepped). r .store) (unsound-step s (x n) h)
 
-  pub unsound-trace : (n : ℕ) → traceAfter s x n ≡ replicate n no17
+  unsound-trace : (n : ℕ) → traceAfter s x n ≡ replicate n no17
   unfolding traceAfter
   unsound-trace zero = refl
   unsound-trace (suc n) = rw (unsound-trace n, unsound-store n, unsound-step s (x n) h) (replicate-end n no17)

@@ -1,15 +1,15 @@
 -- What the inner functions answer, each of the parts that its kind looks at. Contracts inside the crate cite it; no promise does. Assumes nothing.
-use mathlib.Core.Bool.{Bool, true, false, not}
+use mathlib.Core.Bool.{Bool, not}
 use mathlib.Core.List.{List, [], _∷_}
-use Prim.Native.Nat.{ℕ, zero, suc, pred}
+use Prim.Native.Nat.{ℕ, zero, suc}
 use lib.Dec.{eqb}
-use lib.ListN.{take, set, getD}
+use lib.ListN.{take, getD}
 use Rattle.figure.specs.Record.{noRecord}
-use Rattle.figure.specs.Refusals.{Refusal, _when_, pick, firstOf}
+use Rattle.figure.specs.Refusals.{Refusal, _when_, firstOf}
 use Rattle.figure.specs.declared.Record.{Record}
 use Rattle.figure.specs.declared.Sizes.{Sizes}
-use Rattle.store.specs.Parts.{any, firsts, outOf, outJoined, outLeft, inOf, inJoined, inLeft, full, ownWaits, inCache, cachedValue, cached, noOutEntry, noInEntry}
-use Rattle.store.specs.Step.{formRefused, outEntry, inEntry, filled}
+use Rattle.store.specs.Parts.{any, outOf, outJoined, outLeft, inOf, inJoined, inLeft, full, ownWaits, inCache, cachedValue, cached, noOutEntry, noInEntry}
+use Rattle.store.specs.Step.{outEntry, inEntry, filled}
 use Rattle.store.specs.declared.Answer.{Answer}
 use Rattle.store.specs.declared.Cache.{Cache}
 use Rattle.store.specs.declared.InEntry.{InEntry}
@@ -28,10 +28,6 @@ saying (suc n) e = record { number = suc n; event = noRecord }
 abbrev pub unless : {A : Type 0} → ℕ → A → A → A
 unless zero a b = a
 unless (suc n) a b = b
-
--- the kind of a well-formed record, 0 of another
-abbrev pub kindOf : Sizes → Record → ℕ
-kindOf z x = unless (firstOf (formRefused z x)) (x .kind) 0
 
 abbrev pub readRefused : Cache → ℕ → InQueue → Record → List Refusal
 readRefused c outs q x = 21 when not (eqb outs 0) ∷ 22 when ownWaits (x .engine) q ∷ 23 when not (inCache c (x .address)) ∷ []
@@ -68,15 +64,6 @@ updateTurn c q x =
     let e = getD (inOf q) 0 noInEntry in
     record { said = saying n (filled x e); queue = unless n (inLeft q) q; cache = unless n (cached (e .address) (e .«data») c) c }
 
--- after an MW: how many in queues its entry joins, all or none where it is refused; that entry; the in queues and the memory
-abbrev pub toldOf : ℕ → Answer → ℕ
-toldOf engines a = unless (a .number) engines 0
-
+-- what an MW tells every engine
 abbrev pub toldEntry : Record → Answer → InEntry
 toldEntry x a = inEntry (x .engine .0) (a .event .address .0) (a .event .«data»)
-
-abbrev pub insAfter : List InQueue → ℕ → Record → Answer → List InQueue
-insAfter ins engines x a = firsts (toldOf engines a) (inJoined (toldEntry x a)) ins
-
-abbrev pub memoryAfter : List ℕ → Answer → List ℕ
-memoryAfter m a = unless (a .number) (set m (a .event .address .0) (a .event .«data»)) m

@@ -17,6 +17,7 @@ use figure::Address;
 use figure::Engine;
 use figure::Record;
 use figure::Sizes;
+use lists::bytes::RECORD;
 
 // An update on its way to a cache; origin 0: from memory.
 pub struct InEntry {
@@ -184,11 +185,11 @@ fn least(a: usize, b: usize) -> usize
 fn refuse_all(actions: &[u8], trace: &mut [u8])
     ensures { λ _. ⌜ now (trace .exit) ≡ laid (bytesOf (replicate (turnsOf (now (actions .entry)) (now (trace .entry))) (refusalRecord 17))) (now (trace .entry)) ⌝ }
 {
-    let n = least(actions.len() / 8, trace.len() / 8);
+    let n = least(actions.len() / RECORD, trace.len() / RECORD);
     let no = turn::traced(turn::refuse(17));
     let mut i = 0;
     while i < n {
-        lists::bytes::put_record(trace, 8 * i, no);
+        lists::bytes::put_record(trace, RECORD * i, no);
         i += 1;
     }
 }
@@ -198,12 +199,12 @@ fn sound_turns(s: Store, actions: &[u8], trace: &mut [u8]) -> Store
     requires { ⌜ soundOf s ≡ true ⌝ }
     ensures { λ r. ⌜ Turned s (now (actions .entry)) (now (trace .entry)) r (now (trace .exit)) ⌝ }
 {
-    let n = least(actions.len() / 8, trace.len() / 8);
+    let n = least(actions.len() / RECORD, trace.len() / RECORD);
     let mut t = s;
     let mut i = 0;
     while i < n {
         let z = t.sizes;
-        let x = lists::bytes::record_at(actions, 8 * i);
+        let x = lists::bytes::record_at(actions, RECORD * i);
         let form = turn::judge_form(z, x);
         let kind = turn::kind_of(form, x);
         let k = turn::place_of(x.engine);
@@ -219,8 +220,11 @@ fn sound_turns(s: Store, actions: &[u8], trace: &mut [u8]) -> Store
                 let w = turn::try_publish(t.outs[k], t.ins, z, x);
                 let q = w.queue;
                 t.outs[k] = q;
-                t.memory = turn::memory_after(t.memory, w.said);
-                t.ins = turn::ins_after(t.ins, z.engines, x, w.said);
+                if w.said.number == 0 {
+                    let at = w.said.event.address.0 as usize;
+                    t.memory[at] = w.said.event.data;
+                    t.ins = parts::all_join(t.ins, z.engines, turn::told_entry(x, w.said));
+                }
                 w.said
             }
             4 => {
@@ -244,7 +248,7 @@ fn sound_turns(s: Store, actions: &[u8], trace: &mut [u8]) -> Store
             }
             _ => turn::refuse(form),
         };
-        lists::bytes::put_record(trace, 8 * i, turn::traced(said));
+        lists::bytes::put_record(trace, RECORD * i, turn::traced(said));
         i += 1;
     }
     t
@@ -254,9 +258,9 @@ fn sound_turns(s: Store, actions: &[u8], trace: &mut [u8]) -> Store
 pub fn step(s: Store, x: Record) -> Stepped
     ensures { λ r. ⌜ r ≡ stepped s x ⌝ }
 {
-    let mut action = [0u8; 8];
+    let mut action = [0u8; RECORD];
     lists::bytes::put_record(&mut action, 0, x);
-    let mut trace = [0u8; 8];
+    let mut trace = [0u8; RECORD];
     let t = turns(s, &action, &mut trace);
     let e = lists::bytes::record_at(&trace, 0);
     if e.kind == 0 {

@@ -15,7 +15,7 @@ use figure::Address;
 use figure::Engine;
 use figure::Sizes;
 
-pub fn out_join(q: OutQueue, x: OutEntry) -> OutQueue
+pub(crate) fn out_join(q: OutQueue, x: OutEntry) -> OutQueue
     requires { ⌜ q .len < 32 ⌝ }
     ensures { λ r. ⌜ r ≡ outJoined x q ⌝ }
 {
@@ -27,7 +27,7 @@ pub fn out_join(q: OutQueue, x: OutEntry) -> OutQueue
     r
 }
 
-pub fn out_leave(q: OutQueue) -> OutQueue
+pub(crate) fn out_leave(q: OutQueue) -> OutQueue
     requires { ⌜ (0 < q .len) × (q .len ≤ 32) ⌝ }
     ensures { λ r. ⌜ r ≡ outLeft q ⌝ }
 {
@@ -44,7 +44,7 @@ pub fn out_leave(q: OutQueue) -> OutQueue
     r
 }
 
-pub fn in_join(q: InQueue, x: InEntry) -> InQueue
+pub(crate) fn in_join(q: InQueue, x: InEntry) -> InQueue
     requires { ⌜ q .len < 32 ⌝ }
     ensures { λ r. ⌜ r ≡ inJoined x q ⌝ }
 {
@@ -56,7 +56,7 @@ pub fn in_join(q: InQueue, x: InEntry) -> InQueue
     r
 }
 
-pub fn in_leave(q: InQueue) -> InQueue
+pub(crate) fn in_leave(q: InQueue) -> InQueue
     requires { ⌜ (0 < q .len) × (q .len ≤ 32) ⌝ }
     ensures { λ r. ⌜ r ≡ inLeft q ⌝ }
 {
@@ -73,7 +73,7 @@ pub fn in_leave(q: InQueue) -> InQueue
     r
 }
 
-pub fn own_waits(i: Engine, q: InQueue) -> bool
+pub(crate) fn own_waits(i: Engine, q: InQueue) -> bool
     requires { ⌜ q .len ≤ 32 ⌝ }
     ensures { λ r. ⌜ r ≡ ownWaits i q ⌝ }
 {
@@ -89,7 +89,7 @@ pub fn own_waits(i: Engine, q: InQueue) -> bool
     false
 }
 
-pub fn set_cached(c: Cache, a: Address, d: u32) -> Cache
+pub(crate) fn set_cached(c: Cache, a: Address, d: u32) -> Cache
     requires { ⌜ a .0 < 64 ⌝ }
     ensures { λ r. ⌜ r ≡ cached a d c ⌝ }
 {
@@ -100,7 +100,7 @@ pub fn set_cached(c: Cache, a: Address, d: u32) -> Cache
     r
 }
 
-pub fn drop_cached(c: Cache, a: Address) -> Cache
+pub(crate) fn drop_cached(c: Cache, a: Address) -> Cache
     requires { ⌜ a .0 < 64 ⌝ }
     ensures { λ r. ⌜ r ≡ dropped a c ⌝ }
 {
@@ -111,7 +111,7 @@ pub fn drop_cached(c: Cache, a: Address) -> Cache
 }
 
 // Some in queue of the engines 1 to n is full.
-pub fn some_full(ins: [InQueue; 8], n: u8, depth: u8) -> bool
+pub(crate) fn some_full(ins: [InQueue; 8], n: u8, depth: u8) -> bool
     requires { ⌜ n ≤ 8 ⌝ }
     ensures { λ r. ⌜ r ≡ any (λ (q : InQueue). full depth (q .len)) (take n ins) ⌝ }
 {
@@ -128,7 +128,7 @@ pub fn some_full(ins: [InQueue; 8], n: u8, depth: u8) -> bool
 }
 
 // The entry joins the in queues of the engines 1 to n, all of which have room.
-pub fn all_join(ins: [InQueue; 8], n: u8, x: InEntry) -> [InQueue; 8]
+pub(crate) fn all_join(ins: [InQueue; 8], n: u8, x: InEntry) -> [InQueue; 8]
     requires { ⌜ (n ≤ 8) × ((k : ℕ) → k < n → getD ins k noIn .len < 32) ⌝ }
     ensures { λ r. ⌜ r ≡ firsts n (inJoined x) ins ⌝ }
 {
@@ -185,7 +185,7 @@ fn sound_in(q: InQueue, z: Sizes) -> bool
     true
 }
 
-pub fn sound_outs(outs: [OutQueue; 8], z: Sizes) -> bool
+pub(crate) fn sound_outs(outs: [OutQueue; 8], z: Sizes) -> bool
     requires { ⌜ (z .engines ≤ 8) × (z .depth ≤ 32) ⌝ }
     ensures { λ r. ⌜ r ≡ all (soundOut z) (take (z .engines) outs) ⌝ }
 {
@@ -201,7 +201,7 @@ pub fn sound_outs(outs: [OutQueue; 8], z: Sizes) -> bool
     true
 }
 
-pub fn sound_ins(ins: [InQueue; 8], z: Sizes) -> bool
+pub(crate) fn sound_ins(ins: [InQueue; 8], z: Sizes) -> bool
     requires { ⌜ (z .engines ≤ 8) × (z .depth ≤ 32) ⌝ }
     ensures { λ r. ⌜ r ≡ all (soundIn z) (take (z .engines) ins) ⌝ }
 {

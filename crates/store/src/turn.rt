@@ -6,9 +6,9 @@ ghost use lib.Dec.{eqb, leb};
 ghost use lib.ListN.{getD};
 ghost use Rattle.figure.specs.Record.{noRecord};
 ghost use Rattle.figure.specs.Refusals.{firstOf};
-ghost use Rattle.store.specs.Parts.{noInEntry, noIn};
+ghost use Rattle.store.specs.Parts.{noInEntry};
 ghost use Rattle.store.specs.Step.{formRefused, usesAddress, usesData, fieldsRight, filled};
-ghost use Rattle.store.specs.Pieces.{saying, unless, readTurn, writeTurn, publishTurn, refreshTurn, updateTurn, toldOf, toldEntry, insAfter, memoryAfter};
+ghost use Rattle.store.specs.Pieces.{saying, unless, readTurn, writeTurn, publishTurn, refreshTurn, updateTurn, toldEntry};
 ghost use Rattle.store.specs.Trace.{tracedAs};
 use super::Answer;
 use super::Cache;
@@ -23,31 +23,31 @@ use figure::Record;
 use figure::Sizes;
 
 // An answer, with the out queue after it.
-pub struct OutTurn {
+pub(crate) struct OutTurn {
     pub said: Answer,
     pub queue: OutQueue,
 }
 
 // An answer, with the in queue after it.
-pub struct InTurn {
+pub(crate) struct InTurn {
     pub said: Answer,
     pub queue: InQueue,
 }
 
 // An answer, with the in queue and the cache after it.
-pub struct CacheTurn {
+pub(crate) struct CacheTurn {
     pub said: Answer,
     pub queue: InQueue,
     pub cache: Cache,
 }
 
-pub fn accept(event: Record) -> Answer
+pub(crate) fn accept(event: Record) -> Answer
     ensures { λ r. ⌜ r ≡ saying 0 event ⌝ }
 {
     Answer { number: 0, event }
 }
 
-pub fn refuse(number: u8) -> Answer
+pub(crate) fn refuse(number: u8) -> Answer
     requires { ⌜ 0 < number ⌝ }
     ensures { λ r. ⌜ r ≡ saying number noRecord ⌝ }
 {
@@ -106,7 +106,7 @@ fn fields_right(x: Record) -> bool
 }
 
 // 11 to 14, or 0.
-pub fn judge_form(z: Sizes, x: Record) -> u8
+pub(crate) fn judge_form(z: Sizes, x: Record) -> u8
     ensures { λ r. ⌜ r ≡ firstOf (formRefused z x) ⌝ }
 {
     if figure::is_outside(1, 6, x.kind) {
@@ -124,7 +124,7 @@ pub fn judge_form(z: Sizes, x: Record) -> u8
     0
 }
 
-pub fn try_read(c: Cache, outs: u8, q: InQueue, x: Record) -> Answer
+pub(crate) fn try_read(c: Cache, outs: u8, q: InQueue, x: Record) -> Answer
     requires { ⌜ (q .len ≤ 32) × (x .address .0 < 64) ⌝ }
     ensures { λ r. ⌜ r ≡ readTurn c outs q x ⌝ }
 {
@@ -141,14 +141,14 @@ pub fn try_read(c: Cache, outs: u8, q: InQueue, x: Record) -> Answer
     accept(fill(x, Engine(0), x.address, c.data[at]))
 }
 
-pub fn try_write(q: OutQueue, depth: u8, x: Record) -> OutTurn
+pub(crate) fn try_write(o: OutQueue, depth: u8, x: Record) -> OutTurn
     requires { ⌜ depth ≤ 32 ⌝ }
-    ensures { λ r. ⌜ r ≡ writeTurn q depth x ⌝ }
+    ensures { λ r. ⌜ r ≡ writeTurn o depth x ⌝ }
 {
-    if depth <= q.len {
+    if depth <= o.len {
         return OutTurn {
             said: refuse(24),
-            queue: q,
+            queue: o,
         };
     }
     let address = x.address;
@@ -158,34 +158,34 @@ pub fn try_write(q: OutQueue, depth: u8, x: Record) -> OutTurn
     };
     OutTurn {
         said: accept(x),
-        queue: parts::out_join(q, e),
+        queue: parts::out_join(o, e),
     }
 }
 
-pub fn try_publish(q: OutQueue, ins: [InQueue; 8], z: Sizes, x: Record) -> OutTurn
-    requires { ⌜ (q .len ≤ 32) × (z .engines ≤ 8) ⌝ }
-    ensures { λ r. ⌜ r ≡ publishTurn q ins z x ⌝ }
+pub(crate) fn try_publish(o: OutQueue, ins: [InQueue; 8], z: Sizes, x: Record) -> OutTurn
+    requires { ⌜ (o .len ≤ 32) × (z .engines ≤ 8) ⌝ }
+    ensures { λ r. ⌜ r ≡ publishTurn o ins z x ⌝ }
 {
-    if q.len == 0 {
+    if o.len == 0 {
         return OutTurn {
             said: refuse(25),
-            queue: q,
+            queue: o,
         };
     }
     if parts::some_full(ins, z.engines, z.depth) {
         return OutTurn {
             said: refuse(26),
-            queue: q,
+            queue: o,
         };
     }
-    let first = q.entries[0];
+    let first = o.entries[0];
     OutTurn {
         said: accept(fill(x, Engine(0), first.address, first.data)),
-        queue: parts::out_leave(q),
+        queue: parts::out_leave(o),
     }
 }
 
-pub fn try_refresh(q: InQueue, depth: u8, value: u32, x: Record) -> InTurn
+pub(crate) fn try_refresh(q: InQueue, depth: u8, value: u32, x: Record) -> InTurn
     requires { ⌜ depth ≤ 32 ⌝ }
     ensures { λ r. ⌜ r ≡ refreshTurn q depth value x ⌝ }
 {
@@ -207,7 +207,7 @@ pub fn try_refresh(q: InQueue, depth: u8, value: u32, x: Record) -> InTurn
     }
 }
 
-pub fn try_update(c: Cache, q: InQueue, x: Record) -> CacheTurn
+pub(crate) fn try_update(c: Cache, q: InQueue, x: Record) -> CacheTurn
     requires { ⌜ (q .len ≤ 32) × ((k : ℕ) → k < q .len → getD (q .entries) k noInEntry .address .0 < 64) ⌝ }
     ensures { λ r. ⌜ r ≡ updateTurn c q x ⌝ }
 {
@@ -227,34 +227,14 @@ pub fn try_update(c: Cache, q: InQueue, x: Record) -> CacheTurn
 }
 
 // The kind of a well-formed record, 0 of another.
-pub fn kind_of(form: u8, x: Record) -> u8
+pub(crate) fn kind_of(form: u8, x: Record) -> u8
     ensures { λ r. ⌜ r ≡ unless form (x .kind) 0 ⌝ }
 {
     if form == 0 { x.kind } else { 0 }
 }
 
-pub fn memory_after(memory: [u32; 64], said: Answer) -> [u32; 64]
-    requires { ⌜ said .event .address .0 < 64 ⌝ }
-    ensures { λ r. ⌜ r ≡ memoryAfter memory said ⌝ }
-{
-    if said.number != 0 {
-        return memory;
-    }
-    let at = said.event.address.0 as usize;
-    let mut m = memory;
-    m[at] = said.event.data;
-    m
-}
-
-// How many in queues the entry of an MW joins: all, or none where it is refused.
-fn told(engines: u8, said: Answer) -> u8
-    ensures { λ r. ⌜ r ≡ toldOf engines said ⌝ }
-{
-    if said.number == 0 { engines } else { 0 }
-}
-
 // What an MW tells every engine.
-fn told_entry(x: Record, said: Answer) -> InEntry
+pub(crate) fn told_entry(x: Record, said: Answer) -> InEntry
     ensures { λ r. ⌜ r ≡ toldEntry x said ⌝ }
 {
     let origin = x.engine;
@@ -267,16 +247,8 @@ fn told_entry(x: Record, said: Answer) -> InEntry
     }
 }
 
-// The in queues after an MW.
-pub fn ins_after(ins: [InQueue; 8], engines: u8, x: Record, said: Answer) -> [InQueue; 8]
-    requires { ⌜ (toldOf engines said ≤ 8) × ((k : ℕ) → k < toldOf engines said → getD ins k noIn .len < 32) ⌝ }
-    ensures { λ r. ⌜ r ≡ insAfter ins engines x said ⌝ }
-{
-    parts::all_join(ins, told(engines, said), told_entry(x, said))
-}
-
 // What a step leaves in the trace.
-pub fn traced(said: Answer) -> Record
+pub(crate) fn traced(said: Answer) -> Record
     ensures { λ r. ⌜ r ≡ tracedAs (said .number) (said .event) ⌝ }
 {
     if said.number == 0 {
@@ -292,7 +264,7 @@ pub fn traced(said: Answer) -> Record
 }
 
 // Where engine i's parts stand; 0 for what is no engine.
-pub fn place_of(i: Engine) -> usize
+pub(crate) fn place_of(i: Engine) -> usize
     ensures { λ r. ⌜ (r ≡ pred (i .0)) × (r < 256) ⌝ }
 {
     if i.0 == 0 { 0 } else { (i.0 - 1) as usize }

@@ -1,9 +1,8 @@
--- `store::filled_store` meets its contract. Assumes nothing.
-use mathlib.Core.Path.{_≡_, refl, ap, sym, _∙_}
-use Prim.Native.Nat.{_+_, _-_, _<_, _≤_}
+-- `store::filled_store` meets its contract. The invariant: the first i words of the table lie over zeros. Assumes nothing.
+use mathlib.Core.Path.{_≡_, ap, _∙_}
+use Prim.Native.Nat.{_-_, _≤_, ℕ}
 use native.Mathlib.Omega.{arith}
 use mathlib.Core.List.{List}
-use Prim.Native.Nat.{ℕ}
 use lib.ListN.{length, take, replicate}
 use lib.Seq.{take-length}
 use Rattle.figure.specs.declared.Sizes.{Sizes}
@@ -14,8 +13,6 @@ use Rattle.store.proofs.Laws.{over-more}
 use borrow.Author.Needs.{needs}
 use Rattle.store.proofs.filled_store.Statement.{statement}
 use Rattle.store.proofs.filled_store.Tie as tie
-use Rattle.store.proofs.filled_store.Reads as reads
-use Rattle.store.proofs.filled_store.Lts as lts
 
 filled : (z : Sizes) (table m : List ℕ) → m ≡ over table (replicate 64 0)
     → _≡_ {A = Store} (record { sizes = z; memory = m; caches = replicate 8 emptyCache; outs = replicate 8 emptyOut; ins = replicate 8 emptyIn }) (freshOf z table)

@@ -1,25 +1,18 @@
--- `store::fresh` meets its contract. Assumes nothing.
-use mathlib.Core.Path.{_≡_, refl, ap, sym, _∙_}
-use Prim.Native.Nat.{_+_, _-_, _<_, _≤_}
+-- `store::fresh` meets its contract: the first refusal that applies, or the fresh store. Assumes nothing.
+use mathlib.Core.Path.{_≡_, refl, sym, _∙_}
 use native.Mathlib.Omega.{arith}
-use mathlib.Core.List.{List, [], _∷_}
+use mathlib.Core.List.{List}
 use Prim.Native.Nat.{ℕ, zero, suc}
 use lib.ListN.{length}
 use Rattle.figure.specs.Refusals.{sizesRefused, firstOf}
 use Rattle.figure.specs.declared.Sizes.{Sizes}
 use Rattle.figure.proofs.First.{first-front, first-append, same-not, other-not}
 use Rattle.store.specs.declared.Made.{Made}
-use Rattle.store.specs.declared.Store.{Store}
 use Rattle.store.specs.Fresh.{freshOf, zeros, freshRefused, made, madeAs}
 use Rattle.store.proofs.Kept.{Ranged, sizes-ranged, sizes-numbered}
 use borrow.Author.Needs.{needs}
 use Rattle.store.proofs.fresh.Statement.{statement}
 use Rattle.store.proofs.fresh.Tie as tie
-use Rattle.store.proofs.fresh.Reads as reads
-use Rattle.store.proofs.fresh.Lts as lts
-use Rattle.figure.proofs.judge_sizes.Reads as judge-sizes-reads
-use Rattle.store.proofs.filled_store.Reads as filled-store-reads
-use Rattle.store.proofs.zero_store.Reads as zero-store-reads
 
 made-no : (n : ℕ) (z : Sizes) (table : List ℕ) → ¬ (n ≡ 0) → _≡_ {A = Made} (record { number = n; store = zeros }) (madeAs n z table)
 made-no zero z table h = absurd (h refl)

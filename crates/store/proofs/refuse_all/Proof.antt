@@ -1,19 +1,12 @@
--- `store::refuse_all` meets its contract. Assumes nothing.
-use mathlib.Core.Path.{_≡_, refl, ap, sym, _∙_}
-use Prim.Native.Nat.{_*_, _-_, _<_, _≤_}
+-- `store::refuse_all` meets its contract. The invariant, Refusing: the records of i refusals lie over the front of the lent buffer. Assumes nothing.
+use mathlib.Core.Path.{_∙_}
+use Prim.Native.Nat.{_-_}
 use native.Mathlib.Omega.{arith}
-use lib.ListN.{length}
 use denote.Ref.{now}
 use Rattle.store.proofs.Turning.{Refusing, refusing-none, refusing-long, refusing-more, refusing-all, room}
 use borrow.Author.Needs.{needs}
 use Rattle.store.proofs.refuse_all.Statement.{statement}
 use Rattle.store.proofs.refuse_all.Tie as tie
-use Rattle.store.proofs.refuse_all.Reads as reads
-use Rattle.store.proofs.refuse_all.Lts as lts
-use Rattle.lists.proofs.bytes.put_record.Reads as put-record-reads
-use Rattle.store.proofs.least.Reads as least-reads
-use Rattle.store.proofs.turn.refuse.Reads as refuse-reads
-use Rattle.store.proofs.turn.traced.Reads as traced-reads
 
 abbrev Inv-loop : tie.InvT-loop
 Inv-loop actions trace₀ n no' i₀ trace i = Refusing trace₀ n trace i

@@ -1,16 +1,11 @@
 -- `store::sound` meets its contract. Assumes nothing.
-use mathlib.Core.Path.{_≡_, refl, ap, sym, _∙_}
-use borrow.Author.Tests.{lt-ltb, le-ltb, le-leb, lt-leb, eq-eqb, ne-eqb, not-true, not-false}
+use mathlib.Core.Path.{sym, _∙_}
+use borrow.Author.Tests.{eq-eqb, ne-eqb, not-true, not-false}
 use Rattle.store.proofs.Kept.{Ranged, sizes-ranged}
 use Rattle.store.specs.Sound.{soundOf}
 use borrow.Author.Needs.{needs}
 use Rattle.store.proofs.sound.Statement.{statement}
 use Rattle.store.proofs.sound.Tie as tie
-use Rattle.store.proofs.sound.Reads as reads
-use Rattle.store.proofs.sound.Lts as lts
-use Rattle.figure.proofs.judge_sizes.Reads as judge-sizes-reads
-use Rattle.store.proofs.parts.sound_ins.Reads as sound-ins-reads
-use Rattle.store.proofs.parts.sound_outs.Reads as sound-outs-reads
 
 judge-sizes-requires : tie.Need-judge-sizes-requires
 judge-sizes-requires c κs = search needs

@@ -1,10 +1,9 @@
--- `store::sound_turns` meets its contract. Assumes nothing.
-use mathlib.Core.Path.{_≡_, refl, ap, sym, _∙_}
-use Prim.Native.Nat.{ℕ, suc, _+_, _*_, _-_, _<_, _≤_}
+-- `store::sound_turns` meets its contract. The invariant, Turning: the store and the trace are those after i steps, and the store is sound. Each arm of the match is one law of Arms.antt. Assumes nothing.
+use mathlib.Core.Path.{_≡_, refl}
+use Prim.Native.Nat.{ℕ, suc, _+_, _*_, _-_, _<_}
 use native.Mathlib.Omega.{arith}
 use mathlib.Core.Logic.{inl, inr}
 use native.Mathlib.Nat.{mul-le-mul-right, le-of-lt}
-use lib.ListN.{length}
 use Rattle.figure.specs.Refusals.{firstOf}
 use Rattle.figure.specs.declared.Record.{Record}
 use Rattle.store.specs.Sound.{soundOf}
@@ -16,30 +15,12 @@ use borrow.Author.Tests.{leb-true}
 use mir.Syntax.{w64}
 use mir.Val.{Fits}
 use denote.Ref.{now}
-use Rattle.store.proofs.Arms.{Ready, ready, kind-is, kind-none, Did, did-as, did-refuse, did-read, did-write, did-publish, told-address, told-room, did-refresh, did-update, did-drop}
+use Rattle.store.proofs.Arms.{Ready, ready, kind-is, kind-none, Did, did-as, did-refuse, did-read, did-write, did-publish, did-block, told-address, told-room, did-refresh, did-update, did-drop}
 use Rattle.store.proofs.Turning.{Turning, turning-none, turning-long, turning-more, turning-all, room}
-use borrow.Author.Needs.{needs}
 use Rattle.store.proofs.sound_turns.Statement.{statement}
 use Rattle.store.proofs.sound_turns.Tie as tie
 use Rattle.store.proofs.sound_turns.Reads as reads
 use Rattle.store.proofs.sound_turns.Lts as lts
-use Rattle.lists.proofs.bytes.put_record.Reads as put-record-reads
-use Rattle.lists.proofs.bytes.record_at.Reads as record-at-reads
-use Rattle.store.proofs.least.Reads as least-reads
-use Rattle.store.proofs.parts.drop_cached.Reads as drop-cached-reads
-use Rattle.store.proofs.turn.accept.Reads as accept-reads
-use Rattle.store.proofs.turn.ins_after.Reads as ins-after-reads
-use Rattle.store.proofs.turn.judge_form.Reads as judge-form-reads
-use Rattle.store.proofs.turn.kind_of.Reads as kind-of-reads
-use Rattle.store.proofs.turn.memory_after.Reads as memory-after-reads
-use Rattle.store.proofs.turn.place_of.Reads as place-of-reads
-use Rattle.store.proofs.turn.refuse.Reads as refuse-reads
-use Rattle.store.proofs.turn.traced.Reads as traced-reads
-use Rattle.store.proofs.turn.try_publish.Reads as try-publish-reads
-use Rattle.store.proofs.turn.try_read.Reads as try-read-reads
-use Rattle.store.proofs.turn.try_refresh.Reads as try-refresh-reads
-use Rattle.store.proofs.turn.try_update.Reads as try-update-reads
-use Rattle.store.proofs.turn.try_write.Reads as try-write-reads
 
 abbrev Inv-loop : tie.InvT-loop
 Inv-loop actions trace₀ n t₀ i₀ trace t i = Turning t₀ actions trace₀ n trace t i
@@ -94,7 +75,10 @@ did-here c =
     elim (c .match .came) [
       | inl w ↦ did-as (w .4) (w .5) (did-read t x h (kind-here b (w .0 .keys1) .0) i (kind-here b (w .0 .keys1) .1) (w .3 .ensures))
       | inr (inl w) ↦ did-as (w .5) (w .6) (did-write t x h (kind-here b (w .0 .keys2) .0) i (kind-here b (w .0 .keys2) .1) (w .2 .ensures))
-      | inr (inr (inl w)) ↦ did-as (w .10) (w .11) (did-publish t x h (kind-here b (w .0 .keys3) .0) i (w .3 .ensures) (kind-here b (w .0 .keys3) .1) (w .6 .ensures) (w .8 .ensures))
+      | inr (inr (inl w)) ↦ did-as (w .8) (w .9) (elim (w .6 .came) [
+        | inl v ↦ did-as (v .5) refl (did-publish t x h (kind-here b (w .0 .keys3) .0) i (w .3 .ensures) (kind-here b (w .0 .keys3) .1) (v .0 .taken) (v .3 .ensures) (v .4 .ensures))
+        | inr v ↦ did-as (v .1) refl (did-block t x h (kind-here b (w .0 .keys3) .0) i (w .3 .ensures) (kind-here b (w .0 .keys3) .1) (v .0 .left))
+      ])
       | inr (inr (inr (inl w))) ↦ did-as (w .7) (w .8) (did-refresh t x h (kind-here b (w .0 .keys4) .0) i (kind-here b (w .0 .keys4) .1) (w .4 .ensures))
       | inr (inr (inr (inr (inl w)))) ↦ did-as (w .7) (w .8) (did-update t x h (kind-here b (w .0 .keys5) .0) i (kind-here b (w .0 .keys5) .1) (w .3 .ensures))
       | inr (inr (inr (inr (inr (inl w))))) ↦ did-as (w .4) (w .5) (did-drop t x h (kind-here b (w .0 .keys6) .0) i (kind-here b (w .0 .keys6) .1) (w .2 .ensures) (w .3 .ensures))
@@ -177,16 +161,27 @@ mul-q-2 c = fits _ (ready-here (c .before .before .before .before .before) (c .b
 element-set-from-q-2 : tie.Need-element-set-from-q-2 Inv-loop μ-loop
 element-set-from-q-2 c = ready-here (c .before .before .before .before .before) (c .before .before .before .before .match .keys3) .place
 
-memory-after-requires : tie.Need-memory-after-requires Inv-loop μ-loop
-memory-after-requires c κs =
-    told-address (store-here (c .before .before .before .before .before .before)) (action-here (c .before .before .before .before .before .before)) (sound-here (c .before .before .before .before .before .before)) (kind-here (c .before .before .before .before .before .before) (c .before .before .before .before .before .match .keys3) .0) (c .before .before .before .before .before .before .place-of .ensures .0) (c .before .before .try-publish .ensures)
-
-ins-after-requires : tie.Need-ins-after-requires Inv-loop μ-loop
-ins-after-requires c κs =
-    told-room (store-here (c .before .before .before .before .before .before .before .before)) (action-here (c .before .before .before .before .before .before .before .before)) (sound-here (c .before .before .before .before .before .before .before .before)) (kind-here (c .before .before .before .before .before .before .before .before) (c .before .before .before .before .before .before .before .match .keys3) .0) (c .before .before .before .before .before .before .before .before .place-of .ensures .0) (c .before .before .before .before .try-publish .ensures)
-
 cast-at : tie.Need-cast-at Inv-loop μ-loop
-cast-at c = narrow (ready-here (c .before .before) (c .before .match .keys4) .address)
+cast-at c =
+    narrow (told-address (store-here (c .before .before .before .before .before .before .before .before)) (action-here (c .before .before .before .before .before .before .before .before)) (sound-here (c .before .before .before .before .before .before .before .before)) (kind-here (c .before .before .before .before .before .before .before .before) (c .before .before .before .before .before .before .before .match .keys3) .0) (c .before .before .before .before .before .before .before .before .place-of .ensures .0) (c .before .before .before .before .try-publish .ensures))
+
+mul-t : tie.Need-mul-t Inv-loop μ-loop
+mul-t c =
+    fits _ (told-address (store-here (c .before .before .before .before .before .before .before .before)) (action-here (c .before .before .before .before .before .before .before .before)) (sound-here (c .before .before .before .before .before .before .before .before)) (kind-here (c .before .before .before .before .before .before .before .before) (c .before .before .before .before .before .before .before .match .keys3) .0) (c .before .before .before .before .before .before .before .before .place-of .ensures .0) (c .before .before .before .before .try-publish .ensures)) refl
+
+element-write-t : tie.Need-element-write-t Inv-loop μ-loop
+element-write-t c =
+    told-address (store-here (c .before .before .before .before .before .before .before .before)) (action-here (c .before .before .before .before .before .before .before .before)) (sound-here (c .before .before .before .before .before .before .before .before)) (kind-here (c .before .before .before .before .before .before .before .before) (c .before .before .before .before .before .before .before .match .keys3) .0) (c .before .before .before .before .before .before .before .before .place-of .ensures .0) (c .before .before .before .before .try-publish .ensures)
+
+told-entry-requires : tie.Need-told-entry-requires Inv-loop μ-loop
+told-entry-requires c κs = tt
+
+all-join-requires : tie.Need-all-join-requires Inv-loop μ-loop
+all-join-requires c κs =
+    told-room (store-here (c .before .before .before .before .before .before .before .before .before .before)) (action-here (c .before .before .before .before .before .before .before .before .before .before)) (sound-here (c .before .before .before .before .before .before .before .before .before .before)) (kind-here (c .before .before .before .before .before .before .before .before .before .before) (c .before .before .before .before .before .before .before .before .before .match .keys3) .0) (c .before .before .before .before .before .before .before .before .before .before .place-of .ensures .0) (c .before .before .before .before .before .before .try-publish .ensures) (c .before .before .before .if1 .taken)
+
+cast-at-2 : tie.Need-cast-at-2 Inv-loop μ-loop
+cast-at-2 c = narrow (ready-here (c .before .before) (c .before .match .keys4) .address)
 
 mul-try-refresh : tie.Need-mul-try-refresh Inv-loop μ-loop
 mul-try-refresh c = fits _ (ready-here (c .before .before) (c .before .match .keys4) .place) refl
@@ -249,8 +244,8 @@ element-copy-out-drop-cached c = ready-here (c .before) (c .match .keys6) .place
 drop-cached-requires : tie.Need-drop-cached-requires Inv-loop μ-loop
 drop-cached-requires c κs = ready-here (c .before .before) (c .before .match .keys6) .address
 
-mul-t85 : tie.Need-mul-t85 Inv-loop μ-loop
-mul-t85 c = fits _ (ready-here (c .before .before .before) (c .before .before .match .keys6) .place) refl
+mul-t90 : tie.Need-mul-t90 Inv-loop μ-loop
+mul-t90 c = fits _ (ready-here (c .before .before .before) (c .before .before .match .keys6) .place) refl
 
 element-set-from-t : tie.Need-element-set-from-t Inv-loop μ-loop
 element-set-from-t c = ready-here (c .before .before .before) (c .before .before .match .keys6) .place
@@ -317,9 +312,12 @@ sound-turns-spec =
     try-publish-requires
     mul-q-2
     element-set-from-q-2
-    memory-after-requires
-    ins-after-requires
     cast-at
+    mul-t
+    element-write-t
+    told-entry-requires
+    all-join-requires
+    cast-at-2
     mul-try-refresh
     element-copy-out-try-refresh
     mul-try-refresh-2
@@ -339,7 +337,7 @@ sound-turns-spec =
     mul-drop-cached
     element-copy-out-drop-cached
     drop-cached-requires
-    mul-t85
+    mul-t90
     element-set-from-t
     accept-requires
     refuse-requires

@@ -1,15 +1,8 @@
--- `store::step` meets its contract. Assumes nothing.
-use mathlib.Core.Path.{_≡_, refl, ap, sym, _∙_}
+-- `store::step` meets its contract: one turn over the bytes of one action, and the answer read off the trace. Assumes nothing.
 use Rattle.store.proofs.OneTurn.{once-no, once-yes}
 use borrow.Author.Needs.{needs}
 use Rattle.store.proofs.step.Statement.{statement}
 use Rattle.store.proofs.step.Tie as tie
-use Rattle.store.proofs.step.Reads as reads
-use Rattle.store.proofs.step.Lts as lts
-use Rattle.figure.proofs.no_record.Reads as no-record-reads
-use Rattle.lists.proofs.bytes.put_record.Reads as put-record-reads
-use Rattle.lists.proofs.bytes.record_at.Reads as record-at-reads
-use Rattle.store.proofs.turns.Reads as turns-reads
 
 slice-aggregate-put-record : tie.Need-slice-aggregate-put-record
 slice-aggregate-put-record c = search needs

@@ -1,14 +1,9 @@
--- `store::turns` meets its contract. Assumes nothing.
-use mathlib.Core.Path.{_≡_, refl, ap, sym, _∙_}
+-- `store::turns` meets its contract: a sound store by the loop, an unsound one by 17 throughout. Assumes nothing.
+use mathlib.Core.Path.{sym, _∙_}
 use Rattle.store.proofs.Turning.{turned-unsound}
 use borrow.Author.Needs.{needs}
 use Rattle.store.proofs.turns.Statement.{statement}
 use Rattle.store.proofs.turns.Tie as tie
-use Rattle.store.proofs.turns.Reads as reads
-use Rattle.store.proofs.turns.Lts as lts
-use Rattle.store.proofs.refuse_all.Reads as refuse-all-reads
-use Rattle.store.proofs.sound.Reads as sound-reads
-use Rattle.store.proofs.sound_turns.Reads as sound-turns-reads
 
 sound-requires : tie.Need-sound-requires
 sound-requires c κs = search needs

@@ -1,16 +1,13 @@
--- `store::parts::all_join` meets its contract. Assumes nothing.
-use mathlib.Core.Path.{_≡_, refl, ap, sym, _∙_}
+-- `store::parts::all_join` meets its contract. The invariant: the entry has joined the first k queues, and the others are as they were. Assumes nothing.
+use mathlib.Core.Path.{_≡_}
 use native.Mathlib.Omega.{arith}
-use Prim.Native.Nat.{_+_, _-_, _<_, _≤_}
-use lib.ListN.{length, take, getD}
+use Prim.Native.Nat.{_-_, _≤_}
+use lib.ListN.{length}
 use Rattle.store.specs.Parts.{firsts, inJoined, noIn}
 use Rattle.store.proofs.Laws.{long, firsts-at, firsts-more}
 use borrow.Author.Needs.{needs}
 use Rattle.store.proofs.parts.all_join.Statement.{statement}
 use Rattle.store.proofs.parts.all_join.Tie as tie
-use Rattle.store.proofs.parts.all_join.Reads as reads
-use Rattle.store.proofs.parts.all_join.Lts as lts
-use Rattle.store.proofs.parts.in_join.Reads as in-join-reads
 
 abbrev Inv-loop : tie.InvT-loop
 Inv-loop n x m r₀ k₀ r k = (k ≤ m) × (r ≡ firsts k (inJoined x) r₀)

@@ -1,14 +1,12 @@
--- `store::parts::in_join` meets its contract. Assumes nothing.
-use mathlib.Core.Path.{_≡_, refl, ap, sym, _∙_}
+-- `store::parts::in_join` meets its contract: the entry stands just past the last one. Assumes nothing.
+use mathlib.Core.Path.{_≡_}
 use native.Mathlib.Omega.{arith}
-use Prim.Native.Nat.{_+_, _-_, _<_, _≤_}
-use lib.ListN.{length, take, getD}
+use Prim.Native.Nat.{_<_}
+use lib.ListN.{length}
 use Rattle.store.proofs.Laws.{long, join-length, join-over}
 use borrow.Author.Needs.{needs}
 use Rattle.store.proofs.parts.in_join.Statement.{statement}
 use Rattle.store.proofs.parts.in_join.Tie as tie
-use Rattle.store.proofs.parts.in_join.Reads as reads
-use Rattle.store.proofs.parts.in_join.Lts as lts
 
 cast-at : tie.Need-cast-at
 cast-at c = search needs

@@ -1,14 +1,12 @@
--- `store::parts::in_leave` meets its contract. Assumes nothing.
-use mathlib.Core.Path.{_≡_, refl, ap, sym, _∙_}
+-- `store::parts::in_leave` meets its contract. The invariant: the first i places have each taken what the next place held. Assumes nothing.
+use mathlib.Core.Path.{_≡_}
 use native.Mathlib.Omega.{arith}
-use Prim.Native.Nat.{_+_, _-_, _<_, _≤_}
-use lib.ListN.{length, take, getD}
+use Prim.Native.Nat.{_-_, _<_, _≤_}
+use lib.ListN.{length}
 use Rattle.store.proofs.Laws.{long, shifted, shift-more, leave-over, leave-length}
 use borrow.Author.Needs.{needs}
 use Rattle.store.proofs.parts.in_leave.Statement.{statement}
 use Rattle.store.proofs.parts.in_leave.Tie as tie
-use Rattle.store.proofs.parts.in_leave.Reads as reads
-use Rattle.store.proofs.parts.in_leave.Lts as lts
 
 abbrev Inv-loop : tie.InvT-loop
 Inv-loop n last r₀ i₀ r i = (i ≤ last) × (r .entries ≡ shifted i (r₀ .entries))

@@ -1,18 +1,16 @@
--- `store::parts::own_waits` meets its contract. Assumes nothing.
-use mathlib.Core.Path.{_≡_, refl, ap, sym, _∙_}
+-- `store::parts::own_waits` meets its contract. The invariant: none of the first k entries is from engine i. Assumes nothing.
+use mathlib.Core.Path.{_≡_, sym}
 use native.Mathlib.Omega.{arith}
-use Prim.Native.Nat.{_+_, _-_, _<_, _≤_}
-use lib.ListN.{length, take, getD}
+use Prim.Native.Nat.{_-_, _≤_}
+use lib.ListN.{length, take}
 use mathlib.Core.Bool.{false}
-use borrow.Author.Tests.{eqb-true, ltb-true, lt-ltb, le-ltb, le-leb, lt-leb, eq-eqb, ne-eqb}
+use borrow.Author.Tests.{eq-eqb, ne-eqb}
 use Rattle.store.specs.Parts.{any, isFrom}
 use Rattle.store.proofs.Laws.{long}
 use Rattle.store.proofs.Tests.{any-more, any-hit}
 use borrow.Author.Needs.{needs}
 use Rattle.store.proofs.parts.own_waits.Statement.{statement}
 use Rattle.store.proofs.parts.own_waits.Tie as tie
-use Rattle.store.proofs.parts.own_waits.Reads as reads
-use Rattle.store.proofs.parts.own_waits.Lts as lts
 
 abbrev Inv-loop : tie.InvT-loop
 Inv-loop i q n k₀ k = (k ≤ n) × (any (isFrom i) (take k (q .entries)) ≡ false)

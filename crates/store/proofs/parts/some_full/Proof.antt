@@ -1,10 +1,10 @@
--- `store::parts::some_full` meets its contract. Assumes nothing.
-use mathlib.Core.Path.{_≡_, refl, ap, sym, _∙_}
+-- `store::parts::some_full` meets its contract. The invariant: none of the first k queues is full. Assumes nothing.
+use mathlib.Core.Path.{_≡_, sym}
 use native.Mathlib.Omega.{arith}
-use Prim.Native.Nat.{_+_, _-_, _<_, _≤_}
-use lib.ListN.{length, take, getD}
+use Prim.Native.Nat.{_-_, _≤_}
+use lib.ListN.{length, take}
 use mathlib.Core.Bool.{false}
-use borrow.Author.Tests.{eqb-true, ltb-true, lt-ltb, le-ltb, le-leb, lt-leb, eq-eqb, ne-eqb}
+use borrow.Author.Tests.{le-leb, lt-leb}
 use Rattle.store.specs.declared.InQueue.{InQueue}
 use Rattle.store.specs.Parts.{any, full}
 use Rattle.store.proofs.Laws.{long}
@@ -12,8 +12,6 @@ use Rattle.store.proofs.Tests.{any-more, any-hit}
 use borrow.Author.Needs.{needs}
 use Rattle.store.proofs.parts.some_full.Statement.{statement}
 use Rattle.store.proofs.parts.some_full.Tie as tie
-use Rattle.store.proofs.parts.some_full.Reads as reads
-use Rattle.store.proofs.parts.some_full.Lts as lts
 
 abbrev Inv-loop : tie.InvT-loop
 Inv-loop n depth ins m k₀ k = (k ≤ m) × (any (λ (q : InQueue). full depth (q .len)) (take k ins) ≡ false)

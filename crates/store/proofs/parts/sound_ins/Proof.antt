@@ -1,9 +1,9 @@
--- `store::parts::sound_ins` meets its contract. Assumes nothing.
-use mathlib.Core.Path.{_≡_, refl, ap, sym, _∙_}
+-- `store::parts::sound_ins` meets its contract. The invariant: the first k queues are sound. Assumes nothing.
+use mathlib.Core.Path.{_≡_, sym, _∙_}
 use native.Mathlib.Omega.{arith}
-use Prim.Native.Nat.{_+_, _-_, _<_, _≤_}
-use lib.ListN.{length, take, getD}
-use mathlib.Core.Bool.{true, false}
+use Prim.Native.Nat.{_-_, _≤_}
+use lib.ListN.{length, take}
+use mathlib.Core.Bool.{true}
 use borrow.Author.Tests.{not-true, not-false}
 use Rattle.store.specs.Parts.{all, noIn}
 use Rattle.store.specs.Sound.{soundIn}
@@ -12,9 +12,6 @@ use Rattle.store.proofs.Tests.{all-more, all-miss}
 use borrow.Author.Needs.{needs}
 use Rattle.store.proofs.parts.sound_ins.Statement.{statement}
 use Rattle.store.proofs.parts.sound_ins.Tie as tie
-use Rattle.store.proofs.parts.sound_ins.Reads as reads
-use Rattle.store.proofs.parts.sound_ins.Lts as lts
-use Rattle.store.proofs.parts.sound_in.Reads as sound-in-reads
 
 abbrev Inv-loop : tie.InvT-loop
 Inv-loop z ins n k₀ k = (k ≤ n) × (all (soundIn z) (take k ins) ≡ true)

@@ -1,10 +1,10 @@
--- `store::parts::sound_out` meets its contract. Assumes nothing.
-use mathlib.Core.Path.{_≡_, refl, ap, sym, _∙_}
+-- `store::parts::sound_out` meets its contract. The invariant: the first k entries are sound. Assumes nothing.
+use mathlib.Core.Path.{_≡_, sym}
 use native.Mathlib.Omega.{arith}
-use Prim.Native.Nat.{_+_, _-_, _<_, _≤_}
-use lib.ListN.{length, take, getD}
-use mathlib.Core.Bool.{true, false}
-use borrow.Author.Tests.{eqb-true, ltb-true, lt-ltb, le-ltb, le-leb, lt-leb, eq-eqb, ne-eqb}
+use Prim.Native.Nat.{_-_, _≤_}
+use lib.ListN.{length, take}
+use mathlib.Core.Bool.{true}
+use borrow.Author.Tests.{lt-ltb, le-ltb, le-leb, lt-leb}
 use lib.Dec.{leb}
 use Rattle.store.specs.Parts.{all, noOutEntry}
 use Rattle.store.specs.Sound.{soundOutEntry}
@@ -13,8 +13,6 @@ use Rattle.store.proofs.Tests.{and-false, all-more, all-miss}
 use borrow.Author.Needs.{needs}
 use Rattle.store.proofs.parts.sound_out.Statement.{statement}
 use Rattle.store.proofs.parts.sound_out.Tie as tie
-use Rattle.store.proofs.parts.sound_out.Reads as reads
-use Rattle.store.proofs.parts.sound_out.Lts as lts
 
 abbrev Inv-loop : tie.InvT-loop
 Inv-loop z q n k₀ k = (k ≤ n) × (all (soundOutEntry z) (take k (q .entries)) ≡ true)

@@ -1,9 +1,9 @@
--- `store::parts::sound_outs` meets its contract. Assumes nothing.
-use mathlib.Core.Path.{_≡_, refl, ap, sym, _∙_}
+-- `store::parts::sound_outs` meets its contract. The invariant: the first k queues are sound. Assumes nothing.
+use mathlib.Core.Path.{_≡_, sym, _∙_}
 use native.Mathlib.Omega.{arith}
-use Prim.Native.Nat.{_+_, _-_, _<_, _≤_}
-use lib.ListN.{length, take, getD}
-use mathlib.Core.Bool.{true, false}
+use Prim.Native.Nat.{_-_, _≤_}
+use lib.ListN.{length, take}
+use mathlib.Core.Bool.{true}
 use borrow.Author.Tests.{not-true, not-false}
 use Rattle.store.specs.Parts.{all, noOut}
 use Rattle.store.specs.Sound.{soundOut}
@@ -12,9 +12,6 @@ use Rattle.store.proofs.Tests.{all-more, all-miss}
 use borrow.Author.Needs.{needs}
 use Rattle.store.proofs.parts.sound_outs.Statement.{statement}
 use Rattle.store.proofs.parts.sound_outs.Tie as tie
-use Rattle.store.proofs.parts.sound_outs.Reads as reads
-use Rattle.store.proofs.parts.sound_outs.Lts as lts
-use Rattle.store.proofs.parts.sound_out.Reads as sound-out-reads
 
 abbrev Inv-loop : tie.InvT-loop
 Inv-loop z outs n k₀ k = (k ≤ n) × (all (soundOut z) (take k outs) ≡ true)

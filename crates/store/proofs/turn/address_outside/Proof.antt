@@ -1,11 +1,7 @@
 -- `store::turn::address_outside` meets its contract. Assumes nothing.
-use mathlib.Core.Path.{_≡_, refl, ap, sym, _∙_}
 use borrow.Author.Needs.{needs}
 use Rattle.store.proofs.turn.address_outside.Statement.{statement}
 use Rattle.store.proofs.turn.address_outside.Tie as tie
-use Rattle.store.proofs.turn.address_outside.Reads as reads
-use Rattle.store.proofs.turn.address_outside.Lts as lts
-use Rattle.store.proofs.turn.uses_address.Reads as uses-address-reads
 
 uses-address-requires : tie.Need-uses-address-requires
 uses-address-requires c κs = search needs

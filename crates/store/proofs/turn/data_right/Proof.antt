@@ -1,11 +1,7 @@
 -- `store::turn::data_right` meets its contract. Assumes nothing.
-use mathlib.Core.Path.{_≡_, refl, ap, sym, _∙_}
-use borrow.Author.Tests.{lt-ltb, le-ltb, le-leb, lt-leb, eq-eqb, ne-eqb, not-true, not-false}
-use borrow.Author.Needs.{needs}
+use borrow.Author.Tests.{eq-eqb, ne-eqb}
 use Rattle.store.proofs.turn.data_right.Statement.{statement}
 use Rattle.store.proofs.turn.data_right.Tie as tie
-use Rattle.store.proofs.turn.data_right.Reads as reads
-use Rattle.store.proofs.turn.data_right.Lts as lts
 
 returns : tie.Need-returns
 returns c = rw (eq-eqb _ _ (c .if1 .taken))

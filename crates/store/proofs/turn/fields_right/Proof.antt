@@ -1,13 +1,8 @@
 -- `store::turn::fields_right` meets its contract. Assumes nothing.
-use mathlib.Core.Path.{_≡_, refl, ap, sym, _∙_}
-use borrow.Author.Tests.{lt-ltb, le-ltb, le-leb, lt-leb, eq-eqb, ne-eqb, not-true, not-false}
+use borrow.Author.Tests.{eq-eqb, ne-eqb}
 use borrow.Author.Needs.{needs}
 use Rattle.store.proofs.turn.fields_right.Statement.{statement}
 use Rattle.store.proofs.turn.fields_right.Tie as tie
-use Rattle.store.proofs.turn.fields_right.Reads as reads
-use Rattle.store.proofs.turn.fields_right.Lts as lts
-use Rattle.store.proofs.turn.address_right.Reads as address-right-reads
-use Rattle.store.proofs.turn.data_right.Reads as data-right-reads
 
 returns : tie.Need-returns
 returns c = rw (ne-eqb _ _ (c .if1 .taken))

@@ -1,14 +1,8 @@
 -- `store::turn::judge_form` meets its contract. Assumes nothing.
-use mathlib.Core.Path.{_≡_, refl, ap, sym, _∙_}
 use Rattle.store.specs.Step.{formRefused}
 use borrow.Author.Needs.{needs}
 use Rattle.store.proofs.turn.judge_form.Statement.{statement}
 use Rattle.store.proofs.turn.judge_form.Tie as tie
-use Rattle.store.proofs.turn.judge_form.Reads as reads
-use Rattle.store.proofs.turn.judge_form.Lts as lts
-use Rattle.figure.proofs.is_outside.Reads as is-outside-reads
-use Rattle.store.proofs.turn.address_outside.Reads as address-outside-reads
-use Rattle.store.proofs.turn.fields_right.Reads as fields-right-reads
 
 is-outside-requires : tie.Need-is-outside-requires
 is-outside-requires c κs = search needs

@@ -1,11 +1,9 @@
 -- `store::turn::kind_of` meets its contract. Assumes nothing.
-use mathlib.Core.Path.{_≡_, refl, ap, sym, _∙_}
-use Rattle.store.proofs.Says.{saying-none, unless-no, traced-no}
+use mathlib.Core.Path.{sym}
+use Rattle.store.proofs.Says.{unless-no}
 use borrow.Author.Needs.{needs}
 use Rattle.store.proofs.turn.kind_of.Statement.{statement}
 use Rattle.store.proofs.turn.kind_of.Tie as tie
-use Rattle.store.proofs.turn.kind_of.Reads as reads
-use Rattle.store.proofs.turn.kind_of.Lts as lts
 
 returns : tie.Need-returns
 returns c = search needs

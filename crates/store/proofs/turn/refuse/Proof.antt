@@ -1,12 +1,8 @@
 -- `store::turn::refuse` meets its contract. Assumes nothing.
-use mathlib.Core.Path.{_≡_, refl, ap, sym, _∙_}
-use Rattle.store.proofs.Says.{saying-none, unless-no, traced-no}
+use Rattle.store.proofs.Says.{saying-none}
 use borrow.Author.Needs.{needs}
 use Rattle.store.proofs.turn.refuse.Statement.{statement}
 use Rattle.store.proofs.turn.refuse.Tie as tie
-use Rattle.store.proofs.turn.refuse.Reads as reads
-use Rattle.store.proofs.turn.refuse.Lts as lts
-use Rattle.figure.proofs.no_record.Reads as no-record-reads
 
 no-record-requires : tie.Need-no-record-requires
 no-record-requires c κs = search needs

@@ -1,11 +1,8 @@
 -- `store::turn::traced` meets its contract. Assumes nothing.
-use mathlib.Core.Path.{_≡_, refl, ap, sym, _∙_}
-use Rattle.store.proofs.Says.{saying-none, unless-no, traced-no}
+use Rattle.store.proofs.Says.{traced-no}
 use borrow.Author.Needs.{needs}
 use Rattle.store.proofs.turn.traced.Statement.{statement}
 use Rattle.store.proofs.turn.traced.Tie as tie
-use Rattle.store.proofs.turn.traced.Reads as reads
-use Rattle.store.proofs.turn.traced.Lts as lts
 
 returns : tie.Need-returns
 returns c = search needs

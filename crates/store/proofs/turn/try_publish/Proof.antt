@@ -1,5 +1,4 @@
 -- `store::turn::try_publish` meets its contract. Assumes nothing.
-use mathlib.Core.Path.{_≡_, refl, ap, sym, _∙_}
 use Prim.Native.Nat.{_<_}
 use native.Mathlib.Omega.{arith}
 use borrow.Author.Tests.{eq-eqb, ne-eqb}
@@ -8,13 +7,6 @@ use Rattle.store.specs.Parts.{noOutEntry}
 use borrow.Author.Needs.{needs}
 use Rattle.store.proofs.turn.try_publish.Statement.{statement}
 use Rattle.store.proofs.turn.try_publish.Tie as tie
-use Rattle.store.proofs.turn.try_publish.Reads as reads
-use Rattle.store.proofs.turn.try_publish.Lts as lts
-use Rattle.store.proofs.parts.out_leave.Reads as out-leave-reads
-use Rattle.store.proofs.parts.some_full.Reads as some-full-reads
-use Rattle.store.proofs.turn.accept.Reads as accept-reads
-use Rattle.store.proofs.turn.fill.Reads as fill-reads
-use Rattle.store.proofs.turn.refuse.Reads as refuse-reads
 
 refuse-requires : tie.Need-refuse-requires
 refuse-requires c κs = search needs

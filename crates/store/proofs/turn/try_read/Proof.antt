@@ -1,16 +1,8 @@
 -- `store::turn::try_read` meets its contract. Assumes nothing.
-use mathlib.Core.Path.{_≡_, refl, ap, sym, _∙_}
-use borrow.Author.Tests.{lt-ltb, le-ltb, le-leb, lt-leb, eq-eqb, ne-eqb, not-true, not-false}
 use Rattle.figure.proofs.First.{same-not, other-not}
 use borrow.Author.Needs.{needs}
 use Rattle.store.proofs.turn.try_read.Statement.{statement}
 use Rattle.store.proofs.turn.try_read.Tie as tie
-use Rattle.store.proofs.turn.try_read.Reads as reads
-use Rattle.store.proofs.turn.try_read.Lts as lts
-use Rattle.store.proofs.parts.own_waits.Reads as own-waits-reads
-use Rattle.store.proofs.turn.accept.Reads as accept-reads
-use Rattle.store.proofs.turn.fill.Reads as fill-reads
-use Rattle.store.proofs.turn.refuse.Reads as refuse-reads
 
 refuse-requires : tie.Need-refuse-requires
 refuse-requires c κs = search needs

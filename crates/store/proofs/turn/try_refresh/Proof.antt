@@ -1,15 +1,8 @@
 -- `store::turn::try_refresh` meets its contract. Assumes nothing.
-use mathlib.Core.Path.{_≡_, refl, ap, sym, _∙_}
-use borrow.Author.Tests.{lt-ltb, le-ltb, le-leb, lt-leb, eq-eqb, ne-eqb, not-true, not-false}
+use borrow.Author.Tests.{le-leb, lt-leb}
 use borrow.Author.Needs.{needs}
 use Rattle.store.proofs.turn.try_refresh.Statement.{statement}
 use Rattle.store.proofs.turn.try_refresh.Tie as tie
-use Rattle.store.proofs.turn.try_refresh.Reads as reads
-use Rattle.store.proofs.turn.try_refresh.Lts as lts
-use Rattle.store.proofs.parts.in_join.Reads as in-join-reads
-use Rattle.store.proofs.turn.accept.Reads as accept-reads
-use Rattle.store.proofs.turn.fill.Reads as fill-reads
-use Rattle.store.proofs.turn.refuse.Reads as refuse-reads
 
 refuse-requires : tie.Need-refuse-requires
 refuse-requires c κs = search needs

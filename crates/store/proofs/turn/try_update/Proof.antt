@@ -1,20 +1,12 @@
 -- `store::turn::try_update` meets its contract. Assumes nothing.
-use mathlib.Core.Path.{_≡_, refl, ap, sym, _∙_}
 use Prim.Native.Nat.{_<_}
 use native.Mathlib.Omega.{arith}
-use borrow.Author.Tests.{lt-ltb, le-ltb, le-leb, lt-leb, eq-eqb, ne-eqb, not-true, not-false}
+use borrow.Author.Tests.{eq-eqb, ne-eqb}
 use lib.Seq.{getD-take}
 use Rattle.store.specs.Parts.{noInEntry}
 use borrow.Author.Needs.{needs}
 use Rattle.store.proofs.turn.try_update.Statement.{statement}
 use Rattle.store.proofs.turn.try_update.Tie as tie
-use Rattle.store.proofs.turn.try_update.Reads as reads
-use Rattle.store.proofs.turn.try_update.Lts as lts
-use Rattle.store.proofs.parts.in_leave.Reads as in-leave-reads
-use Rattle.store.proofs.parts.set_cached.Reads as set-cached-reads
-use Rattle.store.proofs.turn.accept.Reads as accept-reads
-use Rattle.store.proofs.turn.fill.Reads as fill-reads
-use Rattle.store.proofs.turn.refuse.Reads as refuse-reads
 
 refuse-requires : tie.Need-refuse-requires
 refuse-requires c κs = search needs

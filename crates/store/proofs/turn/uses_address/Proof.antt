@@ -1,11 +1,7 @@
 -- `store::turn::uses_address` meets its contract. Assumes nothing.
-use mathlib.Core.Path.{_≡_, refl, ap, sym, _∙_}
-use borrow.Author.Tests.{lt-ltb, le-ltb, le-leb, lt-leb, eq-eqb, ne-eqb, not-true, not-false}
-use borrow.Author.Needs.{needs}
+use borrow.Author.Tests.{eq-eqb, ne-eqb}
 use Rattle.store.proofs.turn.uses_address.Statement.{statement}
 use Rattle.store.proofs.turn.uses_address.Tie as tie
-use Rattle.store.proofs.turn.uses_address.Reads as reads
-use Rattle.store.proofs.turn.uses_address.Lts as lts
 
 returns : tie.Need-returns
 returns c = rw (ne-eqb _ _ (c .if1 .taken))
