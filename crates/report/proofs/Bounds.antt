@@ -1,16 +1,15 @@
 -- How long the texts can be. Assumes nothing.
-use mathlib.Core.Path.{_≡_, refl, sym, ap, _∙_}
+use mathlib.Core.Path.{_≡_, refl}
 use mathlib.Core.Bool.{Bool, true, false}
-use mathlib.Core.List.{List, [], _∷_, _++_}
-use Prim.Native.Nat.{ℕ, zero, suc, _+_, _*_, _^_, _≤_, _<_, min}
+use mathlib.Core.List.{List, _++_}
+use Prim.Native.Nat.{ℕ, _+_, _*_, _^_, _≤_, _<_}
 use native.Mathlib.Omega.{arith}
 use lib.Dec.{eqb}
 use lib.ListN.{length, length-append}
-use Rattle.figure.specs.declared.Record.{Record}
 use Rattle.figure.specs.Refusals.{pick, mostActions}
-use Rattle.lists.specs.Bytes.{Bytes, byteAt, u32At}
+use Rattle.lists.specs.Bytes.{Bytes, u32At}
 use Rattle.history.specs.declared.Counts.{Counts}
-use Rattle.report.specs.Text.{ascii, newline, series, Room}
+use Rattle.report.specs.Text.{ascii, newline, series}
 use Rattle.report.specs.Decimal.{decimal, field, labelled}
 use Rattle.report.specs.Hex.{hexByte, hexWord, traceText, traceTextLength}
 use Rattle.report.specs.Account.{accountWidth, unpublished, eventAt, markAt, markField, kindField, eventFields, accountLine, countsLine, refusedLine, shown, accountText, mostAccountText}

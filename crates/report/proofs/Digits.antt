@@ -2,31 +2,26 @@
 use mathlib.Core.Path.{_≡_, refl, sym, ap, _∙_}
 use mathlib.Core.Bool.{Bool, true, false}
 use mathlib.Core.List.{List, [], _∷_, _++_, append-assoc}
-use Prim.Native.Nat.{ℕ, zero, suc, _+_, _/_, _%_, _^_, _≤_, _<_}
+use Prim.Native.Nat.{ℕ, zero, suc, _+_, _-_, _*_, _/_, _^_, _≤_, _<_}
 use native.Mathlib.Nat.{add-zero}
 use native.Mathlib.Numerals.{add-one}
 use native.Mathlib.Omega.{arith}
 use borrow.Author.Tests.{lt-ltb, le-ltb, ltb-true, ltb-false}
 use lib.Dec.{ltb}
 use lib.ListN.{length, set, length-append}
-use Rattle.figure.specs.Refusals.{pick}
 use Rattle.report.specs.Text.{written, Room}
 use Rattle.report.specs.Decimal.{lastDigit, digitsWithin, decimal}
 use Rattle.report.proofs.Written.{length-written, written-before}
 
 -- any bound on the number of digits gives the same digits
-within-any : (k j n : ℕ) → n < k → n < j → digitsWithin k n ≡ digitsWithin j n
+within-any : (k j : ℕ) (t : Bool) (n : ℕ) → ltb n 10 ≡ t → n < k → n < j → digitsWithin k t n ≡ digitsWithin j t n
 unfolding digitsWithin
-within-any zero j n h g = absurd (omega arith)
-within-any (suc k) zero n h g = absurd (omega arith)
-within-any (suc k) (suc j) n h g = at (ltb n 10) refl (within-any k j (n / 10))
-  where
-    at : (t : Bool) → ltb n 10 ≡ t → (n / 10 < k → n / 10 < j → digitsWithin k (n / 10) ≡ digitsWithin j (n / 10))
-        → pick t [] (digitsWithin k (n / 10)) ++ (lastDigit n ∷ []) ≡ pick t [] (digitsWithin j (n / 10)) ++ (lastDigit n ∷ [])
-    at true e f = refl
-    at false e f =
-        let big : 10 ≤ n = ltb-false n 10 e in
-        rw (f (omega arith) (omega arith))
+within-any zero j t n e h g = absurd (omega arith)
+within-any (suc k) zero t n e h g = absurd (omega arith)
+within-any (suc k) (suc j) true n e h g = refl
+within-any (suc k) (suc j) false n e h g =
+    let big : 10 ≤ n = ltb-false n 10 e in
+    rw (within-any k j (ltb (n / 10) 10) (n / 10) refl (omega arith) (omega arith))
 
 -- ---- what `decimal` is: one digit below 10, and else the digits of n / 10 and one more
 pub decimal-low : (n : ℕ) → n < 10 → decimal n ≡ lastDigit n ∷ []
@@ -35,7 +30,8 @@ decimal-low n h = rw (lt-ltb n 10 h)
 
 pub decimal-high : (n : ℕ) → 10 ≤ n → decimal n ≡ decimal (n / 10) ++ (lastDigit n ∷ [])
 unfolding decimal digitsWithin
-decimal-high n h = rw (le-ltb n 10 h, within-any n (suc (n / 10)) (n / 10) (omega arith) (omega arith))
+decimal-high n h =
+    rw (le-ltb n 10 h, within-any n (suc (n / 10)) (ltb (n / 10) 10) (n / 10) refl (omega arith) (omega arith))
 
 length-low : (n : ℕ) → n < 10 → length (decimal n) ≡ 1
 length-low n h = ap length (decimal-low n h)
@@ -74,22 +70,42 @@ unfoldable pub lastDigits : ℕ → ℕ → List ℕ
 lastDigits zero n = []
 lastDigits (suc k) n = lastDigits k (n / 10) ++ (lastDigit n ∷ [])
 
-within-last : (k n : ℕ) → digitsWithin k n ≡ lastDigits (length (digitsWithin k n)) n
+long : (xs : List ℕ) (b : ℕ) → length (xs ++ (b ∷ [])) ≡ suc (length xs)
+long xs b = length-append xs (b ∷ []) ∙ add-one (length xs)
+
+within-last : (k : ℕ) (t : Bool) (n : ℕ) → digitsWithin k t n ≡ lastDigits (length (digitsWithin k t n)) n
 unfolding digitsWithin lastDigits
-within-last zero n = refl
-within-last (suc k) n = at (ltb n 10) (within-last k (n / 10))
-  where
-    long : (xs : List ℕ) (b : ℕ) → length (xs ++ (b ∷ [])) ≡ suc (length xs)
-    long xs b = length-append xs (b ∷ []) ∙ add-one (length xs)
+within-last zero t n = refl
+within-last (suc k) true n = refl
+within-last (suc k) false n =
+    rw (long (digitsWithin k (ltb (n / 10) 10) (n / 10)) (lastDigit n))
+    (ap (λ (xs : List ℕ). xs ++ (lastDigit n ∷ [])) (within-last k (ltb (n / 10) 10) (n / 10)))
 
-    at : (t : Bool) → digitsWithin k (n / 10) ≡ lastDigits (length (digitsWithin k (n / 10))) (n / 10)
-        → pick t [] (digitsWithin k (n / 10)) ++ (lastDigit n ∷ []) ≡ lastDigits (length (pick t [] (digitsWithin k (n / 10)) ++ (lastDigit n ∷ []))) n
-    at true e = refl
-    at false e = rw (long (digitsWithin k (n / 10)) (lastDigit n)) (ap (λ (xs : List ℕ). xs ++ (lastDigit n ∷ [])) e)
-
-pub decimal-last : (n : ℕ) → decimal n ≡ lastDigits (length (decimal n)) n
+decimal-last : (n : ℕ) → decimal n ≡ lastDigits (length (decimal n)) n
 unfolding decimal
-decimal-last n = within-last (suc n) n
+decimal-last n = within-last (suc n) (ltb n 10) n
+
+-- ---- the digits of n, read as a number, are n
+abbrev valueFrom : ℕ → List ℕ → ℕ
+valueFrom x [] = x
+valueFrom x (d ∷ ds) = valueFrom (x * 10 + (d - 48)) ds
+
+value-more : (x : ℕ) (ds : List ℕ) (d : ℕ) → valueFrom x (ds ++ (d ∷ [])) ≡ valueFrom x ds * 10 + (d - 48)
+value-more x [] d = refl
+value-more x (e ∷ ds) d = value-more (x * 10 + (e - 48)) ds d
+
+value-within : (k : ℕ) (t : Bool) (n : ℕ) → ltb n 10 ≡ t → n < k → valueFrom 0 (digitsWithin k t n) ≡ n
+unfolding digitsWithin
+value-within zero t n e h = absurd (omega arith)
+value-within (suc k) true n e h = omega (arith, ltb-true n 10 e)
+value-within (suc k) false n e h =
+    let big : 10 ≤ n = ltb-false n 10 e in
+    value-more 0 (digitsWithin k (ltb (n / 10) 10) (n / 10)) (lastDigit n)
+    ∙ omega (arith, value-within k (ltb (n / 10) 10) (n / 10) refl (omega arith))
+
+pub decimal-value : (n : ℕ) → valueFrom 0 (decimal n) ≡ n
+unfolding decimal
+decimal-value n = value-within (suc n) (ltb n 10) n refl (omega arith)
 
 -- ---- the loop of `put_digits`: the digits from place k on are written, and the first k are those of rest
 pub record Spelling (n : ℕ) (old : List ℕ) (i : ℕ) (out : List ℕ) (k rest : ℕ) : Type 0 where

@@ -5,3 +5,4 @@ pub mod Fields
 pub mod Bounds
 pub mod Steps
 pub mod ShowBounds
+pub mod Worked

@@ -1,7 +1,7 @@
 -- How long the text of `show` can be. Assumes nothing.
-use mathlib.Core.Path.{_≡_, refl, sym, ap, _∙_}
+use mathlib.Core.Path.{_≡_, refl, _∙_}
 use mathlib.Core.Bool.{Bool, true, false, not}
-use mathlib.Core.List.{List, [], _++_}
+use mathlib.Core.List.{List, _++_}
 use Prim.Native.Nat.{ℕ, zero, suc, _+_, _-_, _*_, _^_, _≤_, _<_, zero-le}
 use native.Mathlib.Omega.{arith}
 use lib.Dec.{eqb}
@@ -9,16 +9,16 @@ use lib.ListN.{length, getD, replicate, length-append, List·getD-append}
 use Rattle.figure.specs.declared.Record.{Record}
 use Rattle.figure.specs.declared.Sizes.{Sizes}
 use Rattle.figure.specs.Refusals.{pick, firstOf, mostAddresses, mostActions}
-use Rattle.lists.specs.Bytes.{Bytes, byteAt, u32At, each, padded}
+use Rattle.lists.specs.Bytes.{Bytes, u32At, each}
 use Rattle.lists.specs.Record.{recordWidth, recordAt}
 use Rattle.lists.specs.Read.{readRefused, layoutOf, readOf, memoryOf, memoryTable}
 use Rattle.lists.proofs.Each.{length-each, getD-each}
-use Rattle.lists.proofs.Sized.{Held, held}
+use Rattle.lists.proofs.Sized.{held}
 use Rattle.history.specs.declared.Counts.{Counts}
 use Rattle.report.specs.Text.{ascii, newline, series}
 use Rattle.report.specs.Decimal.{decimal, field, labelled}
 use Rattle.report.specs.Hex.{hexByte}
-use Rattle.report.specs.Account.{accountText, mostAccountText, refusedLine}
+use Rattle.report.specs.Account.{accountText, refusedLine}
 use Rattle.report.specs.Show.{sizesText, valueField, headLine, kindName, showsAddress, showsData, fieldWhen, actionText, wellFormed, noAnswer, okWhen, answerText, refusalText, outcomeText, byteField, bytesText, stepText, stepLine, stepLines, showText, mostShowText}
 use Rattle.report.proofs.Series.{length-series}
 use Rattle.report.proofs.Bounds.{Counted, length-labelled, byte-digits, byte-field, word-field, word-below, place-digits, length-refused, length-account}

@@ -36,6 +36,10 @@ wrote-append {xs} {ys} {old} {mid} {new} {i} {r} {s} w v =
       bytes = v .bytes ∙ rw (w .bytes, w .place) (written-append old i xs ys);
     }
 
+-- two results that the contract allows are equal
+pub wrote-unique : {text old new new′ : List ℕ} {i r r′ : ℕ} → Wrote text old i r new → Wrote text old i r′ new′ → (r ≡ r′) × (new ≡ new′)
+wrote-unique w v = (w .place ∙ sym (v .place), w .bytes ∙ sym (v .bytes))
+
 pub wrote-one : {b i : ℕ} {old new : List ℕ} → new ≡ set old i b → Wrote (b ∷ []) old i (i + 1) new
 unfolding written
 wrote-one e = record { place = refl; bytes = e }

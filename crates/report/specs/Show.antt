@@ -14,7 +14,7 @@ use Rattle.history.specs.declared.Counts.{Counts}
 use Rattle.report.specs.Text.{ascii, newline, series}
 use Rattle.report.specs.Decimal.{decimal, field, labelled}
 use Rattle.report.specs.Hex.{hexByte}
-use Rattle.report.specs.Account.{accountText, mostAccountText, refusedLine}
+use Rattle.report.specs.Account.{accountText, refusedLine}
 
 -- ---- the head, `engines E addresses M depth D memory v0 v1 ..`
 

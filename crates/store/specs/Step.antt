@@ -104,9 +104,6 @@ withIns s l = record { sizes = s .sizes; memory = s .memory; caches = s .caches;
 abbrev pub withCaches : Store → List Cache → Store
 withCaches s l = record { sizes = s .sizes; memory = s .memory; caches = l; outs = s .outs; ins = s .ins }
 
-abbrev pub withMemory : Store → List ℕ → Store
-withMemory s l = record { sizes = s .sizes; memory = l; caches = s .caches; outs = s .outs; ins = s .ins }
-
 abbrev pub outEntry : ℕ → ℕ → OutEntry
 outEntry a d = record { address = record { 0 = a }; «data» = d }
 

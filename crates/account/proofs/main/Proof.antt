@@ -4,66 +4,46 @@ use lib.Seq.{length-take-le}
 use borrow.Author.Needs.{needs}
 use Rattle.account.proofs.main.Statement.{statement}
 use Rattle.account.proofs.main.Tie as tie
-use Rattle.account.proofs.main.Reads as reads
-use Rattle.account.proofs.main.Lts as lts
-use Rattle.history.proofs.run.Reads as run-reads
-use Rattle.io.proofs.read_full.Reads as read-full-reads
-use Rattle.io.proofs.write_all.Reads as write-all-reads
-use Rattle.report.proofs.account_text.Reads as account-text-reads
 
--- src/main.rt:7:43
 slice-aggregate-read-full : tie.Need-slice-aggregate-read-full
 slice-aggregate-read-full c = search needs
 
--- src/main.rt:7:9
 read-full-requires : tie.Need-read-full-requires
 read-full-requires c κs = search needs
 
--- src/main.rt:10:31
 array-share-prefix-list : tie.Need-array-share-prefix-list
 array-share-prefix-list c = search needs
 
--- src/main.rt:10:31
 slice-aggregate-run : tie.Need-slice-aggregate-run
 slice-aggregate-run c = search needs
 
--- src/main.rt:10:45
 slice-aggregate-run-2 : tie.Need-slice-aggregate-run-2
 slice-aggregate-run-2 c = search needs
 
--- src/main.rt:10:57
 slice-aggregate-run-3 : tie.Need-slice-aggregate-run-3
 slice-aggregate-run-3 c = search needs
 
--- src/main.rt:10:9
 run-requires : tie.Need-run-requires
 run-requires c κs = search needs
 
--- src/main.rt:12:47
 slice-aggregate-account-text : tie.Need-slice-aggregate-account-text
 slice-aggregate-account-text c = search needs
 
--- src/main.rt:12:57
 slice-aggregate-account-text-2 : tie.Need-slice-aggregate-account-text-2
 slice-aggregate-account-text-2 c = search needs
 
--- src/main.rt:12:9
 account-text-requires : tie.Need-account-text-requires
 account-text-requires c κs = search needs
 
--- src/main.rt:13:34
 array-share-prefix-text : tie.Need-array-share-prefix-text
 array-share-prefix-text c = omega (arith, c .before .account-text .ensures .1)
 
--- src/main.rt:13:34
 slice-aggregate-write-all : tie.Need-slice-aggregate-write-all
 slice-aggregate-write-all c = sym (length-take-le _ _ (omega (arith, c .before .before .account-text .ensures .1)))
 
--- src/main.rt:13:5
 write-all-requires : tie.Need-write-all-requires
 write-all-requires c κs = search needs
 
--- src/main.rt:5:1
 returns : tie.Need-returns
 returns c = search needs
 

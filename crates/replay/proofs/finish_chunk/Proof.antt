@@ -2,101 +2,73 @@ use native.Mathlib.Omega.{arith}
 use borrow.Author.Needs.{needs}
 use Rattle.replay.proofs.finish_chunk.Statement.{statement}
 use Rattle.replay.proofs.finish_chunk.Tie as tie
-use Rattle.replay.proofs.finish_chunk.Reads as reads
-use Rattle.replay.proofs.finish_chunk.Lts as lts
-use Rattle.replay.proofs.cut_short.Reads as cut-short-reads
-use Rattle.replay.proofs.input.drop_bytes.Reads as drop-bytes-reads
-use Rattle.replay.proofs.make_room.Reads as make-room-reads
-use Rattle.replay.proofs.put_chunk.Reads as put-chunk-reads
 
--- src/main.rt:84:15
 add-end : tie.Need-add-end
 add-end c = search needs
 
--- src/main.rt:85:23
 sub-put-chunk : tie.Need-sub-put-chunk
 sub-put-chunk c = search needs
 
--- src/main.rt:85:23
 part-put-chunk-start : tie.Need-part-put-chunk-start
 part-put-chunk-start c = search needs
 
--- src/main.rt:85:23
 part-put-chunk-end : tie.Need-part-put-chunk-end
 part-put-chunk-end c = search needs
 
--- src/main.rt:85:58
 sub-put-chunk-2 : tie.Need-sub-put-chunk-2
 sub-put-chunk-2 c = search needs
 
--- src/main.rt:85:58
 part-put-chunk-start-2 : tie.Need-part-put-chunk-start-2
 part-put-chunk-start-2 c = search needs
 
--- src/main.rt:85:58
 part-put-chunk-end-2 : tie.Need-part-put-chunk-end-2
 part-put-chunk-end-2 c = search needs
 
--- src/main.rt:85:9
 put-chunk-requires : tie.Need-put-chunk-requires
 put-chunk-requires c κs = search needs
 
--- src/main.rt:86:9
 drop-bytes-requires : tie.Need-drop-bytes-requires
 drop-bytes-requires c κs = search needs
 
--- src/main.rt:88:9
 cut-short-requires : tie.Need-cut-short-requires
 cut-short-requires c κs = search needs
 
--- src/main.rt:88:9
 same-length : tie.Need-same-length
 same-length c = search needs
 
--- src/main.rt:88:9
 same-length-2 : tie.Need-same-length-2
 same-length-2 c = search needs
 
--- src/main.rt:88:9
 same-length-3 : tie.Need-same-length-3
 same-length-3 c = search needs
 
--- src/main.rt:88:9
 same-length-4 : tie.Need-same-length-4
 same-length-4 c = search needs
 
--- src/main.rt:88:9
 returns : tie.Need-returns
 returns c =
     let p = c .before .before .before .before .before .before .before .before .before .before .before .before .before .before .before .before .before .before .before .before .before .before .before .before .before .pre .0 in
     let e = c .cut-short .ensures in
     record { window-in = record { order = omega (arith, e); end = omega (arith, e) }; room = omega (arith, e, p .sized); sized = p .sized }
 
--- src/main.rt:93:28
 add-make-room : tie.Need-add-make-room
 add-make-room c = search needs
 
--- src/main.rt:93:13
 make-room-requires : tie.Need-make-room-requires
 make-room-requires c κs = search needs
 
--- src/main.rt:77:1
 same-length-5 : tie.Need-same-length-5
 same-length-5 c = search needs
 
--- src/main.rt:77:1
 same-length-6 : tie.Need-same-length-6
 same-length-6 c = search needs
 
--- src/main.rt:77:1
 same-length-7 : tie.Need-same-length-7
 same-length-7 c = search needs
 
--- src/main.rt:77:1
 same-length-8 : tie.Need-same-length-8
 same-length-8 c = search needs
 
--- src/main.rt:77:1
 returns-2 : tie.Need-returns-2
 returns-2 c =
     let p = c .before .before .before .before .before .before .before .before .before .before .before .before .before .before .before .before .before .before .before .before .before .before .before .before .before .before .pre .0 in

@@ -1,31 +1,22 @@
 use borrow.Author.Needs.{needs}
 use Rattle.replay.proofs.main.Statement.{statement}
 use Rattle.replay.proofs.main.Tie as tie
-use Rattle.replay.proofs.main.Reads as reads
-use Rattle.replay.proofs.main.Lts as lts
-use Rattle.replay.proofs.replay.Reads as replay-reads
 
--- src/main.rt:143:12
 slice-aggregate-replay : tie.Need-slice-aggregate-replay
 slice-aggregate-replay c = search needs
 
--- src/main.rt:143:24
 slice-aggregate-replay-2 : tie.Need-slice-aggregate-replay-2
 slice-aggregate-replay-2 c = search needs
 
--- src/main.rt:143:36
 slice-aggregate-replay-3 : tie.Need-slice-aggregate-replay-3
 slice-aggregate-replay-3 c = search needs
 
--- src/main.rt:143:50
 slice-aggregate-replay-4 : tie.Need-slice-aggregate-replay-4
 slice-aggregate-replay-4 c = search needs
 
--- src/main.rt:143:5
 replay-requires : tie.Need-replay-requires
 replay-requires c κs = record { input-long = search needs; trace-long = search needs; out-long = search needs }
 
--- src/main.rt:138:1
 returns : tie.Need-returns
 returns c = search needs
 

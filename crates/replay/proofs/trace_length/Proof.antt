@@ -4,23 +4,16 @@ use Rattle.lists.proofs.Sized.{held}
 use borrow.Author.Needs.{needs}
 use Rattle.replay.proofs.trace_length.Statement.{statement}
 use Rattle.replay.proofs.trace_length.Tie as tie
-use Rattle.replay.proofs.trace_length.Reads as reads
-use Rattle.replay.proofs.trace_length.Lts as lts
-use Rattle.lists.proofs.reader.read.Reads as read-reads
 
--- src/main.rt:29:9
 returns : tie.Need-returns
 returns c = search needs
 
--- src/main.rt:31:9
 read-requires : tie.Need-read-requires
 read-requires c κs = search needs
 
--- src/main.rt:31:5
 mul-result : tie.Need-mul-result
 mul-result c = omega (arith, held (now (c .before .before .before .before .args .list)) (c .before .read .result) (c .before .read .ensures) .few)
 
--- src/main.rt:25:1
 returns-2 : tie.Need-returns-2
 returns-2 c = omega (arith, held (now (c .before .before .before .before .args .list)) (c .before .read .result) (c .before .read .ensures) .few)
 

@@ -3,19 +3,13 @@ use Rattle.report.proofs.Bounds.{length-trace}
 use borrow.Author.Needs.{needs}
 use Rattle.report.proofs.trace_text.Statement.{statement}
 use Rattle.report.proofs.trace_text.Tie as tie
-use Rattle.report.proofs.trace_text.Reads as reads
-use Rattle.report.proofs.trace_text.Lts as lts
-use Rattle.report.proofs.hex.put_trace.Reads as put-trace-reads
 
--- src/lib.rt:31:5
 put-trace-requires : tie.Need-put-trace-requires
 put-trace-requires c κs = record { fits = omega (arith, length-trace (c .before .before .args .hash)) }
 
--- src/lib.rt:27:1
 same-length : tie.Need-same-length
 same-length c = search needs
 
--- src/lib.rt:27:1
 returns : tie.Need-returns
 returns c = (c .before .before .put-trace .ensures, omega (arith, c .before .before .put-trace .ensures .place, length-trace (c .before .before .before .before .before .args .hash)))
 

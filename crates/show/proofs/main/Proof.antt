@@ -4,78 +4,55 @@ use lib.Seq.{length-take-le}
 use borrow.Author.Needs.{needs}
 use Rattle.show.proofs.main.Statement.{statement}
 use Rattle.show.proofs.main.Tie as tie
-use Rattle.show.proofs.main.Reads as reads
-use Rattle.show.proofs.main.Lts as lts
-use Rattle.history.proofs.run.Reads as run-reads
-use Rattle.io.proofs.read_full.Reads as read-full-reads
-use Rattle.io.proofs.write_all.Reads as write-all-reads
-use Rattle.report.proofs.show_text.Reads as show-text-reads
 
--- src/main.rt:8:43
 slice-aggregate-read-full : tie.Need-slice-aggregate-read-full
 slice-aggregate-read-full c = search needs
 
--- src/main.rt:8:9
 read-full-requires : tie.Need-read-full-requires
 read-full-requires c κs = search needs
 
--- src/main.rt:11:31
 array-share-prefix-list : tie.Need-array-share-prefix-list
 array-share-prefix-list c = search needs
 
--- src/main.rt:11:31
 slice-aggregate-run : tie.Need-slice-aggregate-run
 slice-aggregate-run c = search needs
 
--- src/main.rt:11:45
 slice-aggregate-run-2 : tie.Need-slice-aggregate-run-2
 slice-aggregate-run-2 c = search needs
 
--- src/main.rt:11:57
 slice-aggregate-run-3 : tie.Need-slice-aggregate-run-3
 slice-aggregate-run-3 c = search needs
 
--- src/main.rt:11:9
 run-requires : tie.Need-run-requires
 run-requires c κs = search needs
 
--- src/main.rt:13:36
 array-share-prefix-list-2 : tie.Need-array-share-prefix-list-2
 array-share-prefix-list-2 c = search needs
 
--- src/main.rt:13:36
 slice-aggregate-show-text : tie.Need-slice-aggregate-show-text
 slice-aggregate-show-text c = search needs
 
--- src/main.rt:13:58
 slice-aggregate-show-text-2 : tie.Need-slice-aggregate-show-text-2
 slice-aggregate-show-text-2 c = search needs
 
--- src/main.rt:13:66
 slice-aggregate-show-text-3 : tie.Need-slice-aggregate-show-text-3
 slice-aggregate-show-text-3 c = search needs
 
--- src/main.rt:13:76
 slice-aggregate-show-text-4 : tie.Need-slice-aggregate-show-text-4
 slice-aggregate-show-text-4 c = search needs
 
--- src/main.rt:13:9
 show-text-requires : tie.Need-show-text-requires
 show-text-requires c κs = search needs
 
--- src/main.rt:14:34
 array-share-prefix-text : tie.Need-array-share-prefix-text
 array-share-prefix-text c = search needs
 
--- src/main.rt:14:34
 slice-aggregate-write-all : tie.Need-slice-aggregate-write-all
 slice-aggregate-write-all c = sym (length-take-le _ _ (omega (arith, c .before .before .show-text .ensures .1)))
 
--- src/main.rt:14:5
 write-all-requires : tie.Need-write-all-requires
 write-all-requires c κs = search needs
 
--- src/main.rt:5:1
 returns : tie.Need-returns
 returns c = search needs
 

@@ -5,10 +5,6 @@ use lib.ListN.{length}
 use Rattle.replay.specs.Window.{Inside}
 use Rattle.replay.proofs.input.drop_bytes.Statement.{statement}
 use Rattle.replay.proofs.input.drop_bytes.Tie as tie
-use Rattle.replay.proofs.input.drop_bytes.Reads as reads
-use Rattle.replay.proofs.input.drop_bytes.Lts as lts
-use Rattle.replay.proofs.input.hold.Reads as hold-reads
-use Rattle.replay.proofs.input.least.Reads as least-reads
 
 abbrev Inv-loop : tie.InvT-loop
 Inv-loop buffer₀ count window₀ missing₀ buffer window missing = Inside window buffer × (1 ≤ length buffer) × (length buffer ≡ length buffer₀)
@@ -16,51 +12,39 @@ Inv-loop buffer₀ count window₀ missing₀ buffer window missing = Inside win
 abbrev μ-loop : tie.MeasureT-loop
 μ-loop buffer₀ count window₀ missing₀ buffer window missing = missing
 
--- src/input.rt:72:5
 loop-holds : tie.Need-loop-holds Inv-loop μ-loop
 loop-holds c = (c .before .pre .0, c .before .pre .1, refl)
 
--- src/input.rt:73:9
 hold-requires : tie.Need-hold-requires Inv-loop μ-loop
 hold-requires c κs = (c .before .before .loop .inv .0, c .before .before .loop .inv .1)
 
--- src/input.rt:74:32
 sub-least : tie.Need-sub-least Inv-loop μ-loop
 sub-least c = search needs
 
--- src/input.rt:74:13
 least-requires : tie.Need-least-requires Inv-loop μ-loop
 least-requires c κs = search needs
 
--- src/input.rt:76:13
 same-length : tie.Need-same-length Inv-loop μ-loop
 same-length c = search needs
 
--- src/input.rt:76:13
 returns : tie.Need-returns Inv-loop μ-loop
 returns c = search needs
 
--- src/input.rt:78:23
 add-window : tie.Need-add-window Inv-loop μ-loop
 add-window c = search needs
 
--- src/input.rt:79:9
 sub-missing : tie.Need-sub-missing Inv-loop μ-loop
 sub-missing c = search needs
 
--- src/input.rt:72:5
 loop-less : tie.Need-loop-less Inv-loop μ-loop
 loop-less c = search needs
 
--- src/input.rt:72:5
 loop-again : tie.Need-loop-again Inv-loop μ-loop
 loop-again c = search needs
 
--- src/input.rt:66:1
 same-length-2 : tie.Need-same-length-2 Inv-loop μ-loop
 same-length-2 c = search needs
 
--- src/input.rt:66:1
 returns-2 : tie.Need-returns-2 Inv-loop μ-loop
 returns-2 c = search needs
 

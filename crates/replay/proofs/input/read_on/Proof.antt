@@ -4,10 +4,6 @@ use Prim.Native.Nat.{_-_, _≤_}
 use lib.ListN.{length}
 use Rattle.replay.proofs.input.read_on.Statement.{statement}
 use Rattle.replay.proofs.input.read_on.Tie as tie
-use Rattle.replay.proofs.input.read_on.Reads as reads
-use Rattle.replay.proofs.input.read_on.Lts as lts
-use Rattle.io.proofs.count.Reads as count-reads
-use Rattle.libc.proofs.read.Reads as read-reads
 
 abbrev Inv-loop : tie.InvT-loop
 Inv-loop buffer₀ held need to₀ buffer to = (to ≤ length buffer) × (need ≤ length buffer) × (length buffer ≡ length buffer₀)
@@ -15,67 +11,51 @@ Inv-loop buffer₀ held need to₀ buffer to = (to ≤ length buffer) × (need �
 abbrev μ-loop : tie.MeasureT-loop
 μ-loop buffer₀ held need to₀ buffer to = length buffer₀ - to
 
--- src/input.rt:40:5
 loop-holds : tie.Need-loop-holds Inv-loop μ-loop
 loop-holds c = (c .before .pre .0, c .before .pre .1, refl)
 
--- src/input.rt:41:44
 sub-read : tie.Need-sub-read Inv-loop μ-loop
 sub-read c = search needs
 
--- src/input.rt:41:44
 part-read-start : tie.Need-part-read-start Inv-loop μ-loop
 part-read-start c = search needs
 
--- src/input.rt:41:44
 part-read-end : tie.Need-part-read-end Inv-loop μ-loop
 part-read-end c = search needs
 
--- src/input.rt:41:13
 read-requires : tie.Need-read-requires Inv-loop μ-loop
 read-requires c κs = search needs
 
--- src/input.rt:42:32
 sub-count : tie.Need-sub-count Inv-loop μ-loop
 sub-count c = search needs
 
--- src/input.rt:42:32
 part-count-start : tie.Need-part-count-start Inv-loop μ-loop
 part-count-start c = search needs
 
--- src/input.rt:42:32
 part-count-end : tie.Need-part-count-end Inv-loop μ-loop
 part-count-end c = search needs
 
--- src/input.rt:42:13
 count-requires : tie.Need-count-requires Inv-loop μ-loop
 count-requires c κs = search needs
 
--- src/input.rt:44:13
 same-length : tie.Need-same-length Inv-loop μ-loop
 same-length c = search needs
 
--- src/input.rt:44:13
 returns : tie.Need-returns Inv-loop μ-loop
 returns c = search needs
 
--- src/input.rt:46:9
 add-to : tie.Need-add-to Inv-loop μ-loop
 add-to c = search needs
 
--- src/input.rt:40:5
 loop-less : tie.Need-loop-less Inv-loop μ-loop
 loop-less c = search needs
 
--- src/input.rt:40:5
 loop-again : tie.Need-loop-again Inv-loop μ-loop
 loop-again c = search needs
 
--- src/input.rt:35:1
 same-length-2 : tie.Need-same-length-2 Inv-loop μ-loop
 same-length-2 c = search needs
 
--- src/input.rt:35:1
 returns-2 : tie.Need-returns-2 Inv-loop μ-loop
 returns-2 c = search needs
 

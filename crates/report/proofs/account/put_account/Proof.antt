@@ -9,46 +9,32 @@ use Rattle.report.proofs.Written.{joined, after, Rooms, room-first, roo
 use borrow.Author.Needs.{needs}
 use Rattle.report.proofs.account.put_account.Statement.{statement}
 use Rattle.report.proofs.account.put_account.Tie as tie
-use Rattle.report.proofs.account.put_account.Reads as reads
-use Rattle.report.proofs.account.put_account.Lts as lts
-use Rattle.report.proofs.account.least.Reads as least-reads
-use Rattle.report.proofs.account.put_counts.Reads as put-counts-reads
-use Rattle.report.proofs.account.put_lines.Reads as put-lines-reads
-use Rattle.report.proofs.account.put_refused.Reads as put-refused-reads
 
 room : (c : tie.Start) → c .args .c .number ≡ 0 → Rooms (c .args .at) (countsLine (c .args .c) ∷ series (accountLine (now (c .args .account))) (shown (c .args .c)) ∷ [])
 unfolding joined after
 room c e = record { all = rw (account-taken (c .args .c) (now (c .args .account)) e) at (c .pre) }
 
--- src/account.rt:113:9
 put-refused-requires : tie.Need-put-refused-requires
 put-refused-requires c κs = rw (account-refused (c .before .before .before .before .args .c) (now (c .before .before .before .before .args .account)) (c .before .if1 .taken)) at (c .before .before .before .before .pre)
 
--- src/account.rt:113:9
 same-length : tie.Need-same-length
 same-length c = search needs
 
--- src/account.rt:113:9
 returns : tie.Need-returns
 returns c = rw (account-refused (c .before .before .before .before .before .before .before .args .c) (now (c .before .before .before .before .before .before .before .args .account)) (c .before .before .before .before .if1 .taken)) (c .before .before .put-refused .ensures)
 
--- src/account.rt:115:9
 put-counts-requires : tie.Need-put-counts-requires
 put-counts-requires c κs = room-first (room (c .before .before .before .before) (c .before .if1 .left))
 
--- src/account.rt:116:39
 least-requires : tie.Need-least-requires
 least-requires c κs = search needs
 
--- src/account.rt:116:5
 put-lines-requires : tie.Need-put-lines-requires
 put-lines-requires c κs = rw (c .least .ensures) (room-first (rooms-after (room (c .before .before .before .before .before .before .before .before .before) (c .before .before .before .before .before .before .if1 .left)) (c .before .before .before .before .put-counts .ensures .place)), omega arith)
 
--- src/account.rt:107:1
 same-length-2 : tie.Need-same-length-2
 same-length-2 c = search needs
 
--- src/account.rt:107:1
 returns-2 : tie.Need-returns-2
 returns-2 c = rw (account-taken (c .before .before .before .before .before .before .before .before .before .before .before .before .args .c) (now (c .before .before .before .before .before .before .before .before .before .before .before .before .args .account)) (c .before .before .before .before .before .before .before .before .before .if1 .left), ← (c .before .before .before .least .ensures)) (wrote-append (c .before .before .before .before .before .before .before .put-counts .ensures) (c .before .before .put-lines .ensures))
 

@@ -6,56 +6,41 @@ use Rattle.report.proofs.Written.{joined, after, Rooms, room-first, roo
 use borrow.Author.Needs.{needs}
 use Rattle.report.proofs.account.put_counts.Statement.{statement}
 use Rattle.report.proofs.account.put_counts.Tie as tie
-use Rattle.report.proofs.account.put_counts.Reads as reads
-use Rattle.report.proofs.account.put_counts.Lts as lts
-use Rattle.report.proofs.decimal.put_labelled.Reads as put-labelled-reads
-use Rattle.report.proofs.text.put_newline.Reads as put-newline-reads
 
 room : (c : tie.Start) → Rooms (c .args .at) (labelled (ascii "accepted ") (c .args .c .accepted) ∷ labelled (ascii " refused ") (c .args .c .refused) ∷ labelled (ascii " events ") (c .args .c .events) ∷ labelled (ascii " settled ") (c .args .c .settled) ∷ newline ∷ [])
 unfolding joined after countsLine
 room c = record { all = c .pre }
 
--- src/account.rt:86:44
 slice-aggregate-put-labelled : tie.Need-slice-aggregate-put-labelled
 slice-aggregate-put-labelled c = search needs
 
--- src/account.rt:86:9
 put-labelled-requires : tie.Need-put-labelled-requires
 put-labelled-requires c κs = room-first (room (c .before .before .before))
 
--- src/account.rt:87:51
 slice-aggregate-put-labelled-2 : tie.Need-slice-aggregate-put-labelled-2
 slice-aggregate-put-labelled-2 c = search needs
 
--- src/account.rt:87:9
 put-labelled-requires-2 : tie.Need-put-labelled-requires-2
 put-labelled-requires-2 c κs = room-first (rooms-after (room (c .before .before .before .before .before .before .before .before)) (c .before .before .before .before .put-labelled .ensures .place))
 
--- src/account.rt:88:51
 slice-aggregate-put-labelled-3 : tie.Need-slice-aggregate-put-labelled-3
 slice-aggregate-put-labelled-3 c = search needs
 
--- src/account.rt:88:9
 put-labelled-requires-3 : tie.Need-put-labelled-requires-3
 put-labelled-requires-3 c κs = room-first (rooms-after (rooms-after (room (c .before .before .before .before .before .before .before .before .before .before .before .before .before)) (c .before .before .before .before .before .before .before .before .before .put-labelled .ensures .place)) (c .before .before .before .before .put-labelled2 .ensures .place))
 
--- src/account.rt:89:45
 slice-aggregate-put-labelled-4 : tie.Need-slice-aggregate-put-labelled-4
 slice-aggregate-put-labelled-4 c = search needs
 
--- src/account.rt:89:9
 put-labelled-requires-4 : tie.Need-put-labelled-requires-4
 put-labelled-requires-4 c κs = room-first (rooms-after (rooms-after (rooms-after (room (c .before .before .before .before .before .before .before .before .before .before .before .before .before .before .before .before .before .before)) (c .before .before .before .before .before .before .before .before .before .before .before .before .before .before .put-labelled .ensures .place)) (c .before .before .before .before .before .before .before .before .before .put-labelled2 .ensures .place)) (c .before .before .before .before .put-labelled3 .ensures .place))
 
--- src/account.rt:90:5
 put-newline-requires : tie.Need-put-newline-requires
 put-newline-requires c κs = room-first (rooms-after (rooms-after (rooms-after (rooms-after (room (c .before .before .before .before .before .before .before .before .before .before .before .before .before .before .before .before .before .before .before .before .before .before)) (c .before .before .before .before .before .before .before .before .before .before .before .before .before .before .before .before .before .before .put-labelled .ensures .place)) (c .before .before .before .before .before .before .before .before .before .before .before .before .before .put-labelled2 .ensures .place)) (c .before .before .before .before .before .before .before .before .put-labelled3 .ensures .place)) (c .before .before .before .put-labelled4 .ensures .place))
 
--- src/account.rt:82:1
 same-length : tie.Need-same-length
 same-length c = search needs
 
--- src/account.rt:82:1
 returns : tie.Need-returns
 unfolding countsLine
 returns c = wrote-append (wrote-append (wrote-append (wrote-append (c .before .before .before .before .before .before .before .before .before .before .before .before .before .before .before .before .before .before .before .before .before .put-labelled .ensures) (c .before .before .before .before .before .before .before .before .before .before .before .before .before .before .before .before .put-labelled2 .ensures)) (c .before .before .before .before .before .before .before .before .before .before .before .put-labelled3 .ensures)) (c .before .before .before .before .before .before .put-labelled4 .ensures)) (c .before .before .put-newline .ensures)

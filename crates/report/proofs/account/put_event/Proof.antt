@@ -6,53 +6,38 @@ use Rattle.report.proofs.Written.{joined, after, Rooms, room-first, roo
 use borrow.Author.Needs.{needs}
 use Rattle.report.proofs.account.put_event.Statement.{statement}
 use Rattle.report.proofs.account.put_event.Tie as tie
-use Rattle.report.proofs.account.put_event.Reads as reads
-use Rattle.report.proofs.account.put_event.Lts as lts
-use Rattle.report.proofs.account.put_kind.Reads as put-kind-reads
-use Rattle.report.proofs.decimal.put_field.Reads as put-field-reads
-use Rattle.report.proofs.text.put_newline.Reads as put-newline-reads
 
 room : (c : tie.Start) → Rooms (c .args .at) (kindField (c .args .e .kind) ∷ field (c .args .e .engine .0) ∷ field (c .args .e .address .0) ∷ field (c .args .e .«data») ∷ newline ∷ [])
 unfolding joined after eventFields
 room c = record { all = c .pre }
 
--- src/account.rt:51:9
 put-kind-requires : tie.Need-put-kind-requires
 put-kind-requires c κs = room-first (room (c .before .before))
 
--- src/account.rt:52:48
 cast-put-field : tie.Need-cast-put-field
 cast-put-field c = search needs
 
--- src/account.rt:52:9
 put-field-requires : tie.Need-put-field-requires
 put-field-requires c κs = room-first (rooms-after (room (c .before .before .before .before .before .before .before)) (c .before .before .before .before .put-kind .ensures .place))
 
--- src/account.rt:53:46
 cast-put-field-2 : tie.Need-cast-put-field-2
 cast-put-field-2 c = search needs
 
--- src/account.rt:53:9
 put-field-requires-2 : tie.Need-put-field-requires-2
 put-field-requires-2 c κs = room-first (rooms-after (rooms-after (room (c .before .before .before .before .before .before .before .before .before .before .before .before)) (c .before .before .before .before .before .before .before .before .before .put-kind .ensures .place)) (c .before .before .before .before .put-field .ensures .place))
 
--- src/account.rt:54:39
 cast-put-field-3 : tie.Need-cast-put-field-3
 cast-put-field-3 c = search needs
 
--- src/account.rt:54:9
 put-field-requires-3 : tie.Need-put-field-requires-3
 put-field-requires-3 c κs = room-first (rooms-after (rooms-after (rooms-after (room (c .before .before .before .before .before .before .before .before .before .before .before .before .before .before .before .before .before)) (c .before .before .before .before .before .before .before .before .before .before .before .before .before .before .put-kind .ensures .place)) (c .before .before .before .before .before .before .before .before .before .put-field .ensures .place)) (c .before .before .before .before .put-field2 .ensures .place))
 
--- src/account.rt:55:5
 put-newline-requires : tie.Need-put-newline-requires
 put-newline-requires c κs = room-first (rooms-after (rooms-after (rooms-after (rooms-after (room (c .before .before .before .before .before .before .before .before .before .before .before .before .before .before .before .before .before .before .before .before .before)) (c .before .before .before .before .before .before .before .before .before .before .before .before .before .before .before .before .before .before .put-kind .ensures .place)) (c .before .before .before .before .before .before .before .before .before .before .before .before .before .put-field .ensures .place)) (c .before .before .before .before .before .before .before .before .put-field2 .ensures .place)) (c .before .before .before .put-field3 .ensures .place))
 
--- src/account.rt:47:1
 same-length : tie.Need-same-length
 same-length c = search needs
 
--- src/account.rt:47:1
 returns : tie.Need-returns
 unfolding eventFields
 returns c = wrote-append (wrote-append (wrote-append (wrote-append (c .before .before .before .before .before .before .before .before .before .before .before .before .before .before .before .before .before .before .before .before .before .put-kind .ensures) (c .before .before .before .before .before .before .before .before .before .before .before .before .before .before .before .before .put-field .ensures)) (c .before .before .before .before .before .before .before .before .before .before .before .put-field2 .ensures)) (c .before .before .before .before .before .before .put-field3 .ensures)) (c .before .before .put-newline .ensures)

@@ -5,9 +5,6 @@ use Rattle.report.specs.Account.{accountLine}
 use Rattle.report.proofs.Series.{Lining, lining-none, lining-room, lining-more, lining-long, lining-all}
 use Rattle.report.proofs.account.put_lines.Statement.{statement}
 use Rattle.report.proofs.account.put_lines.Tie as tie
-use Rattle.report.proofs.account.put_lines.Reads as reads
-use Rattle.report.proofs.account.put_lines.Lts as lts
-use Rattle.report.proofs.account.put_line.Reads as put-line-reads
 
 abbrev Inv-loop : tie.InvT-loop
 Inv-loop out₀ at account n next₀ k₀ out next k = Lining (accountLine account) n out₀ at out next k
@@ -15,31 +12,24 @@ Inv-loop out₀ at account n next₀ k₀ out next k = Lining (accountLine accou
 abbrev μ-loop : tie.MeasureT-loop
 μ-loop out₀ at account n next₀ k₀ out next k = n - k
 
--- src/account.rt:75:5
 loop-holds : tie.Need-loop-holds Inv-loop μ-loop
 loop-holds c = lining-none (c .before .before .pre .0)
 
--- src/account.rt:76:9
 put-line-requires : tie.Need-put-line-requires Inv-loop μ-loop
 put-line-requires c κs = (lining-room (c .before .before .loop .inv) (c .before .loop-test .taken), omega (arith, c .before .before .before .before .before .pre .1))
 
--- src/account.rt:77:9
 add-k : tie.Need-add-k Inv-loop μ-loop
 add-k c = search needs
 
--- src/account.rt:75:5
 loop-less : tie.Need-loop-less Inv-loop μ-loop
 loop-less c = search needs
 
--- src/account.rt:75:5
 loop-again : tie.Need-loop-again Inv-loop μ-loop
 loop-again c = lining-more (c .before .before .before .before .before .loop .inv) (c .before .before .before .before .loop-test .taken) (c .before .before .put-line .ensures)
 
--- src/account.rt:69:1
 same-length : tie.Need-same-length Inv-loop μ-loop
 same-length c = lining-long (c .before .loop .inv)
 
--- src/account.rt:69:1
 returns : tie.Need-returns Inv-loop μ-loop
 returns c = lining-all (c .before .loop .inv) (c .loop-test .left)
 

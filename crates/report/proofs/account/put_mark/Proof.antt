@@ -2,32 +2,22 @@ use Rattle.report.proofs.Fields.{mark-none, mark-some}
 use borrow.Author.Needs.{needs}
 use Rattle.report.proofs.account.put_mark.Statement.{statement}
 use Rattle.report.proofs.account.put_mark.Tie as tie
-use Rattle.report.proofs.account.put_mark.Reads as reads
-use Rattle.report.proofs.account.put_mark.Lts as lts
-use Rattle.report.proofs.decimal.put_field.Reads as put-field-reads
-use Rattle.report.proofs.text.put_letter.Reads as put-letter-reads
 
--- src/account.rt:32:9
 put-letter-requires : tie.Need-put-letter-requires
 put-letter-requires c κs = rw (mark-none (c .before .before .before .args .mark) (c .before .if1 .taken)) at (c .before .before .before .pre)
 
--- src/account.rt:32:9
 same-length : tie.Need-same-length
 same-length c = search needs
 
--- src/account.rt:32:9
 returns : tie.Need-returns
 returns c = rw (mark-none (c .before .before .before .before .before .before .args .mark) (c .before .before .before .before .if1 .taken)) (c .before .before .put-letter .ensures)
 
--- src/account.rt:34:5
 put-field-requires : tie.Need-put-field-requires
 put-field-requires c κs = rw (mark-some (c .before .before .before .args .mark) (c .before .if1 .left)) at (c .before .before .before .pre)
 
--- src/account.rt:27:1
 same-length-2 : tie.Need-same-length-2
 same-length-2 c = search needs
 
--- src/account.rt:27:1
 returns-2 : tie.Need-returns-2
 returns-2 c = rw (mark-some (c .before .before .before .before .before .before .args .mark) (c .before .before .before .before .if1 .left)) (c .before .before .put-field .ensures)
 

@@ -6,32 +6,23 @@ use Rattle.report.proofs.Written.{joined, after, Rooms, room-first, roo
 use borrow.Author.Needs.{needs}
 use Rattle.report.proofs.account.put_refused.Statement.{statement}
 use Rattle.report.proofs.account.put_refused.Tie as tie
-use Rattle.report.proofs.account.put_refused.Reads as reads
-use Rattle.report.proofs.account.put_refused.Lts as lts
-use Rattle.report.proofs.decimal.put_labelled.Reads as put-labelled-reads
-use Rattle.report.proofs.text.put_newline.Reads as put-newline-reads
 
 room : (c : tie.Start) → Rooms (c .args .at) (labelled (ascii "refused ") (c .args .number) ∷ newline ∷ [])
 unfolding joined after refusedLine
 room c = record { all = c .pre }
 
--- src/account.rt:97:37
 slice-aggregate-put-labelled : tie.Need-slice-aggregate-put-labelled
 slice-aggregate-put-labelled c = search needs
 
--- src/account.rt:97:9
 put-labelled-requires : tie.Need-put-labelled-requires
 put-labelled-requires c κs = room-first (room (c .before .before .before))
 
--- src/account.rt:98:5
 put-newline-requires : tie.Need-put-newline-requires
 put-newline-requires c κs = room-first (rooms-after (room (c .before .before .before .before .before .before .before)) (c .before .before .before .put-labelled .ensures .place))
 
--- src/account.rt:93:1
 same-length : tie.Need-same-length
 same-length c = search needs
 
--- src/account.rt:93:1
 returns : tie.Need-returns
 unfolding refusedLine
 returns c = wrote-append (c .before .before .before .before .before .before .put-labelled .ensures) (c .before .before .put-newline .ensures)

@@ -2,8 +2,6 @@ use borrow.Author.Needs.{needs}
 use Rattle.report.proofs.Digits.{Counting, counting-none, counting-more, counting-all}
 use Rattle.report.proofs.decimal.count_digits.Statement.{statement}
 use Rattle.report.proofs.decimal.count_digits.Tie as tie
-use Rattle.report.proofs.decimal.count_digits.Reads as reads
-use Rattle.report.proofs.decimal.count_digits.Lts as lts
 
 abbrev Inv-loop : tie.InvT-loop
 Inv-loop n count₀ rest₀ count rest = Counting n count rest
@@ -11,23 +9,18 @@ Inv-loop n count₀ rest₀ count rest = Counting n count rest
 abbrev μ-loop : tie.MeasureT-loop
 μ-loop n count₀ rest₀ count rest = rest
 
--- src/decimal.rt:15:5
 loop-holds : tie.Need-loop-holds Inv-loop μ-loop
 loop-holds c = counting-none (c .args .n)
 
--- src/decimal.rt:17:9
 add-count : tie.Need-add-count Inv-loop μ-loop
 add-count c = search needs
 
--- src/decimal.rt:15:5
 loop-less : tie.Need-loop-less Inv-loop μ-loop
 loop-less c = search needs
 
--- src/decimal.rt:15:5
 loop-again : tie.Need-loop-again Inv-loop μ-loop
 loop-again c = counting-more (c .before .loop .inv) (c .loop-test .taken)
 
--- src/decimal.rt:10:1
 returns : tie.Need-returns Inv-loop μ-loop
 returns c = counting-all (c .before .loop .inv) (c .loop-test .left)
 

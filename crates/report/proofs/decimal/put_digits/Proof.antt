@@ -7,10 +7,6 @@ use borrow.Author.Needs.{needs}
 use Rattle.report.proofs.Digits.{Spelling, spelling-none, spelling-more, spelling-long, spelling-all}
 use Rattle.report.proofs.decimal.put_digits.Statement.{statement}
 use Rattle.report.proofs.decimal.put_digits.Tie as tie
-use Rattle.report.proofs.decimal.put_digits.Reads as reads
-use Rattle.report.proofs.decimal.put_digits.Lts as lts
-use Rattle.report.proofs.decimal.last_digit.Reads as last-digit-reads
-use Rattle.report.proofs.text.put_byte.Reads as put-byte-reads
 
 abbrev Inv-loop : tie.InvT-loop
 Inv-loop out₀ at n count i₀ rest₀ out i rest = Spelling n out₀ at out i rest
@@ -18,41 +14,32 @@ Inv-loop out₀ at n count i₀ rest₀ out i rest = Spelling n out₀ at out i 
 abbrev μ-loop : tie.MeasureT-loop
 μ-loop out₀ at n count i₀ rest₀ out i rest = i
 
--- src/decimal.rt:35:5
 loop-holds : tie.Need-loop-holds Inv-loop μ-loop
 loop-holds c =
     let a = c .before .args in
     spelling-none (a .n) (now (a .out)) (a .at) (a .count) (c .before .pre .0) (c .before .pre .1)
 
--- src/decimal.rt:36:9
 sub-i : tie.Need-sub-i Inv-loop μ-loop
 sub-i c = search needs
 
--- src/decimal.rt:37:23
 add-put-byte : tie.Need-add-put-byte Inv-loop μ-loop
 add-put-byte c = search needs
 
--- src/decimal.rt:37:31
 last-digit-requires : tie.Need-last-digit-requires Inv-loop μ-loop
 last-digit-requires c κs = search needs
 
--- src/decimal.rt:37:9
 put-byte-requires : tie.Need-put-byte-requires Inv-loop μ-loop
 put-byte-requires c κs = search needs
 
--- src/decimal.rt:35:5
 loop-less : tie.Need-loop-less Inv-loop μ-loop
 loop-less c = search needs
 
--- src/decimal.rt:35:5
 loop-again : tie.Need-loop-again Inv-loop μ-loop
 loop-again c = spelling-more (c .before .before .before .before .before .before .loop .inv) (omega arith) (c .before .before .put-byte .ensures ∙ ap (λ (b : ℕ). set (c .before .before .before .before .before .before .loop .out) (c .before .before .before .before .before .before .before .before .args .at + (c .before .before .before .before .before .before .loop .i - 1)) b) (c .before .before .before .last-digit .ensures))
 
--- src/decimal.rt:29:1
 same-length : tie.Need-same-length Inv-loop μ-loop
 same-length c = spelling-long (c .before .loop .inv)
 
--- src/decimal.rt:29:1
 returns : tie.Need-returns Inv-loop μ-loop
 returns c = spelling-all (c .before .loop .inv) (omega arith)
 

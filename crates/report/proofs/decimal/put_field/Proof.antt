@@ -7,32 +7,23 @@ use Rattle.report.proofs.Written.{joined, after, Rooms, room-first, roo
 use borrow.Author.Needs.{needs}
 use Rattle.report.proofs.decimal.put_field.Statement.{statement}
 use Rattle.report.proofs.decimal.put_field.Tie as tie
-use Rattle.report.proofs.decimal.put_field.Reads as reads
-use Rattle.report.proofs.decimal.put_field.Lts as lts
-use Rattle.report.proofs.decimal.put_decimal.Reads as put-decimal-reads
-use Rattle.report.proofs.text.put_byte.Reads as put-byte-reads
 
 room : (c : tie.Start) → Rooms (c .args .at) (ascii " " ∷ decimal (c .args .n) ∷ [])
 unfolding joined after field
 room c = record { all = c .pre }
 
--- src/decimal.rt:56:5
 put-byte-requires : tie.Need-put-byte-requires
 put-byte-requires c κs = search needs
 
--- src/decimal.rt:57:22
 add-put-decimal : tie.Need-add-put-decimal
 add-put-decimal c = omega (arith, room-first (room (c .before .before .before .before .before .before)))
 
--- src/decimal.rt:57:5
 put-decimal-requires : tie.Need-put-decimal-requires
 put-decimal-requires c κs = room-first (rooms-after (room (c .before .before .before .before .before .before)) refl)
 
--- src/decimal.rt:52:1
 same-length : tie.Need-same-length
 same-length c = search needs
 
--- src/decimal.rt:52:1
 returns : tie.Need-returns
 unfolding field
 returns c = wrote-append (wrote-one (c .before .before .before .before .before .before .put-byte .ensures)) (c .before .before .put-decimal .ensures)

@@ -5,28 +5,20 @@ use Rattle.report.proofs.Written.{joined, after, Rooms, room-first, roo
 use borrow.Author.Needs.{needs}
 use Rattle.report.proofs.decimal.put_labelled.Statement.{statement}
 use Rattle.report.proofs.decimal.put_labelled.Tie as tie
-use Rattle.report.proofs.decimal.put_labelled.Reads as reads
-use Rattle.report.proofs.decimal.put_labelled.Lts as lts
-use Rattle.report.proofs.decimal.put_decimal.Reads as put-decimal-reads
-use Rattle.report.proofs.text.put_text.Reads as put-text-reads
 
 room : (c : tie.Start) → Rooms (c .args .at) (now (c .args .label) ∷ decimal (c .args .n) ∷ [])
 unfolding joined after labelled
 room c = record { all = c .pre }
 
--- src/decimal.rt:64:9
 put-text-requires : tie.Need-put-text-requires
 put-text-requires c κs = room-first (room (c .before .before .before))
 
--- src/decimal.rt:65:5
 put-decimal-requires : tie.Need-put-decimal-requires
 put-decimal-requires c κs = room-first (rooms-after (room (c .before .before .before .before .before .before .before)) (c .before .before .before .put-text .ensures .place))
 
--- src/decimal.rt:60:1
 same-length : tie.Need-same-length
 same-length c = search needs
 
--- src/decimal.rt:60:1
 returns : tie.Need-returns
 unfolding labelled
 returns c = wrote-append (c .before .before .before .before .before .before .put-text .ensures) (c .before .before .put-decimal .ensures)

@@ -1,19 +1,13 @@
 use borrow.Author.Needs.{needs}
 use Rattle.report.proofs.form.address_right.Statement.{statement}
 use Rattle.report.proofs.form.address_right.Tie as tie
-use Rattle.report.proofs.form.address_right.Reads as reads
-use Rattle.report.proofs.form.address_right.Lts as lts
-use Rattle.report.proofs.form.shows_address.Reads as shows-address-reads
 
--- src/form.rt:25:5
 shows-address-requires : tie.Need-shows-address-requires
 shows-address-requires c κs = search needs
 
--- src/form.rt:22:1
 returns : tie.Need-returns
 returns c = rw (← (c .before .shows-address .ensures), c .if1 .taken)
 
--- src/form.rt:22:1
 returns-2 : tie.Need-returns-2
 returns-2 c = rw (← (c .before .before .shows-address .ensures), c .before .if1 .left)
 

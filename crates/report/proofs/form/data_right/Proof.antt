@@ -1,14 +1,10 @@
 use borrow.Author.Tests.{eq-eqb, ne-eqb}
 use Rattle.report.proofs.form.data_right.Statement.{statement}
 use Rattle.report.proofs.form.data_right.Tie as tie
-use Rattle.report.proofs.form.data_right.Reads as reads
-use Rattle.report.proofs.form.data_right.Lts as lts
 
--- src/form.rt:28:1
 returns : tie.Need-returns
 returns c = simp (eq-eqb _ _ (c .if1 .taken))
 
--- src/form.rt:28:1
 returns-2 : tie.Need-returns-2
 returns-2 c = simp (ne-eqb _ _ (c .before .if1 .left))
 

@@ -2,37 +2,25 @@ use borrow.Author.Tests.{eq-eqb, ne-eqb}
 use borrow.Author.Needs.{needs}
 use Rattle.report.proofs.form.is_well_formed.Statement.{statement}
 use Rattle.report.proofs.form.is_well_formed.Tie as tie
-use Rattle.report.proofs.form.is_well_formed.Reads as reads
-use Rattle.report.proofs.form.is_well_formed.Lts as lts
-use Rattle.figure.proofs.is_outside.Reads as is-outside-reads
-use Rattle.report.proofs.form.address_right.Reads as address-right-reads
-use Rattle.report.proofs.form.data_right.Reads as data-right-reads
 
--- src/form.rt:37:8
 is-outside-requires : tie.Need-is-outside-requires
 is-outside-requires c κs = search needs
 
--- src/form.rt:38:9
 returns : tie.Need-returns
 returns c = rw (← (c .before .is-outside .ensures), c .if1 .taken)
 
--- src/form.rt:41:9
 returns-2 : tie.Need-returns-2
 returns-2 c = rw (← (c .before .before .before .is-outside .ensures), c .before .before .if1 .left, ne-eqb _ _ (c .if2 .taken))
 
--- src/form.rt:43:5
 address-right-requires : tie.Need-address-right-requires
 address-right-requires c κs = search needs
 
--- src/form.rt:43:25
 data-right-requires : tie.Need-data-right-requires
 data-right-requires c κs = search needs
 
--- src/form.rt:34:1
 returns-3 : tie.Need-returns-3
 returns-3 c = rw (← (c .before .before .before .before .before .before .is-outside .ensures), c .before .before .before .before .before .if1 .left, eq-eqb _ _ (c .before .before .before .if2 .left), ← (c .before .before .address-right .ensures), c .before .if3 .taken) (c .data-right .ensures)
 
--- src/form.rt:34:1
 returns-4 : tie.Need-returns-4
 returns-4 c = rw (← (c .before .before .before .before .before .is-outside .ensures), c .before .before .before .before .if1 .left, eq-eqb _ _ (c .before .before .if2 .left), ← (c .before .address-right .ensures), c .if3 .left)
 

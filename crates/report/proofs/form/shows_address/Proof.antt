@@ -1,14 +1,10 @@
 use borrow.Author.Tests.{eq-eqb, ne-eqb}
 use Rattle.report.proofs.form.shows_address.Statement.{statement}
 use Rattle.report.proofs.form.shows_address.Tie as tie
-use Rattle.report.proofs.form.shows_address.Reads as reads
-use Rattle.report.proofs.form.shows_address.Lts as lts
 
--- src/form.rt:10:1
 returns : tie.Need-returns
 returns c = simp (ne-eqb _ _ (c .if1 .taken))
 
--- src/form.rt:10:1
 returns-2 : tie.Need-returns-2
 returns-2 c = simp (eq-eqb _ _ (c .if1 .left))
 

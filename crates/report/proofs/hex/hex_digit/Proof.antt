@@ -2,22 +2,16 @@ use borrow.Author.Tests.{lt-ltb, le-ltb}
 use borrow.Author.Needs.{needs}
 use Rattle.report.proofs.hex.hex_digit.Statement.{statement}
 use Rattle.report.proofs.hex.hex_digit.Tie as tie
-use Rattle.report.proofs.hex.hex_digit.Reads as reads
-use Rattle.report.proofs.hex.hex_digit.Lts as lts
 
--- src/hex.rt:15:17
 add-result : tie.Need-add-result
 add-result c = search needs
 
--- src/hex.rt:15:33
 add-result-2 : tie.Need-add-result-2
 add-result-2 c = search needs
 
--- src/hex.rt:11:1
 returns : tie.Need-returns
 returns c = simp (lt-ltb _ _ (c .if1 .taken))
 
--- src/hex.rt:11:1
 returns-2 : tie.Need-returns-2
 returns-2 c = simp (le-ltb _ _ (c .if1 .left))
 

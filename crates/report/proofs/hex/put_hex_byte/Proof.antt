@@ -3,42 +3,30 @@ use Rattle.report.proofs.Written.{wrote-two}
 use borrow.Author.Needs.{needs}
 use Rattle.report.proofs.hex.put_hex_byte.Statement.{statement}
 use Rattle.report.proofs.hex.put_hex_byte.Tie as tie
-use Rattle.report.proofs.hex.put_hex_byte.Reads as reads
-use Rattle.report.proofs.hex.put_hex_byte.Lts as lts
-use Rattle.report.proofs.hex.hex_digit.Reads as hex-digit-reads
-use Rattle.report.proofs.text.put_byte.Reads as put-byte-reads
 
--- src/hex.rt:22:23
 hex-digit-requires : tie.Need-hex-digit-requires
 hex-digit-requires c κs = search needs
 
--- src/hex.rt:22:5
 put-byte-requires : tie.Need-put-byte-requires
 put-byte-requires c κs = search needs
 
--- src/hex.rt:23:19
 add-put-byte : tie.Need-add-put-byte
 unfolding hexByte
 add-put-byte c = search needs
 
--- src/hex.rt:23:27
 hex-digit-requires-2 : tie.Need-hex-digit-requires-2
 hex-digit-requires-2 c κs = search needs
 
--- src/hex.rt:23:5
 put-byte-requires-2 : tie.Need-put-byte-requires-2
 put-byte-requires-2 c κs = search needs
 
--- src/hex.rt:24:5
 add-result : tie.Need-add-result
 unfolding hexByte
 add-result c = search needs
 
--- src/hex.rt:18:1
 same-length : tie.Need-same-length
 same-length c = search needs
 
--- src/hex.rt:18:1
 returns : tie.Need-returns
 unfolding hexByte
 returns c = rw (← (c .before .before .before .before .before .before .before .before .hex-digit .ensures), ← (c .before .before .before .hex-digit2 .ensures)) (wrote-two (c .before .before .before .before .before .before .before .put-byte .ensures) (c .before .before .put-byte2 .ensures))

@@ -5,51 +5,38 @@ use Rattle.report.proofs.Written.{joined, after, Rooms, room-first, roo
 use borrow.Author.Needs.{needs}
 use Rattle.report.proofs.hex.put_hex_word.Statement.{statement}
 use Rattle.report.proofs.hex.put_hex_word.Tie as tie
-use Rattle.report.proofs.hex.put_hex_word.Reads as reads
-use Rattle.report.proofs.hex.put_hex_word.Lts as lts
-use Rattle.report.proofs.hex.put_hex_byte.Reads as put-hex-byte-reads
 
 room : (c : tie.Start) → Rooms (c .args .at) (hexByte (c .args .x / 16777216) ∷ hexByte (c .args .x / 65536 % 256) ∷ hexByte (c .args .x / 256 % 256) ∷ hexByte (c .args .x % 256) ∷ [])
 unfolding joined after hexWord
 room c = record { all = c .pre }
 
--- src/hex.rt:31:38
 cast-put-hex-byte : tie.Need-cast-put-hex-byte
 cast-put-hex-byte c = search needs
 
--- src/hex.rt:31:9
 put-hex-byte-requires : tie.Need-put-hex-byte-requires
 put-hex-byte-requires c κs = room-first (room (c .before .before))
 
--- src/hex.rt:32:40
 cast-put-hex-byte-2 : tie.Need-cast-put-hex-byte-2
 cast-put-hex-byte-2 c = search needs
 
--- src/hex.rt:32:9
 put-hex-byte-requires-2 : tie.Need-put-hex-byte-requires-2
 put-hex-byte-requires-2 c κs = room-first (rooms-after (room (c .before .before .before .before .before .before)) (c .before .before .before .put-hex-byte .ensures .place))
 
--- src/hex.rt:33:40
 cast-put-hex-byte-3 : tie.Need-cast-put-hex-byte-3
 cast-put-hex-byte-3 c = search needs
 
--- src/hex.rt:33:9
 put-hex-byte-requires-3 : tie.Need-put-hex-byte-requires-3
 put-hex-byte-requires-3 c κs = room-first (rooms-after (rooms-after (room (c .before .before .before .before .before .before .before .before .before .before)) (c .before .before .before .before .before .before .before .put-hex-byte .ensures .place)) (c .before .before .before .put-hex-byte2 .ensures .place))
 
--- src/hex.rt:34:29
 cast-put-hex-byte-4 : tie.Need-cast-put-hex-byte-4
 cast-put-hex-byte-4 c = search needs
 
--- src/hex.rt:34:5
 put-hex-byte-requires-4 : tie.Need-put-hex-byte-requires-4
 put-hex-byte-requires-4 c κs = room-first (rooms-after (rooms-after (rooms-after (room (c .before .before .before .before .before .before .before .before .before .before .before .before .before .before)) (c .before .before .before .before .before .before .before .before .before .before .before .put-hex-byte .ensures .place)) (c .before .before .before .before .before .before .before .put-hex-byte2 .ensures .place)) (c .before .before .before .put-hex-byte3 .ensures .place))
 
--- src/hex.rt:27:1
 same-length : tie.Need-same-length
 same-length c = search needs
 
--- src/hex.rt:27:1
 returns : tie.Need-returns
 unfolding hexWord
 returns c = wrote-append (wrote-append (wrote-append (c .before .before .before .before .before .before .before .before .before .before .before .before .before .before .put-hex-byte .ensures) (c .before .before .before .before .before .before .before .before .before .before .put-hex-byte2 .ensures)) (c .before .before .before .before .before .before .put-hex-byte3 .ensures)) (c .before .before .put-hex-byte4 .ensures)

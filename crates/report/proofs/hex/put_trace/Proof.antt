@@ -6,49 +6,35 @@ use Rattle.report.proofs.Written.{joined, after, Rooms, room-first, roo
 use borrow.Author.Needs.{needs}
 use Rattle.report.proofs.hex.put_trace.Statement.{statement}
 use Rattle.report.proofs.hex.put_trace.Tie as tie
-use Rattle.report.proofs.hex.put_trace.Reads as reads
-use Rattle.report.proofs.hex.put_trace.Lts as lts
-use Rattle.report.proofs.hex.put_hex_word.Reads as put-hex-word-reads
-use Rattle.report.proofs.text.put_newline.Reads as put-newline-reads
-use Rattle.report.proofs.text.put_text.Reads as put-text-reads
 
 room : (c : tie.Start) → Rooms (c .args .at) (ascii "trace " ∷ hexWord (c .args .hash / 2 ^ 32) ∷ hexWord (c .args .hash % 2 ^ 32) ∷ newline ∷ [])
 unfolding joined after traceText
 room c = record { all = c .pre }
 
--- src/hex.rt:41:37
 slice-aggregate-put-text : tie.Need-slice-aggregate-put-text
 slice-aggregate-put-text c = search needs
 
--- src/hex.rt:41:9
 put-text-requires : tie.Need-put-text-requires
 put-text-requires c κs = room-first (room (c .before .before .before))
 
--- src/hex.rt:42:45
 cast-put-hex-word : tie.Need-cast-put-hex-word
 cast-put-hex-word c = search needs
 
--- src/hex.rt:42:9
 put-hex-word-requires : tie.Need-put-hex-word-requires
 put-hex-word-requires c κs = room-first (rooms-after (room (c .before .before .before .before .before .before .before)) (c .before .before .before .put-text .ensures .place))
 
--- src/hex.rt:43:41
 cast-put-hex-word-2 : tie.Need-cast-put-hex-word-2
 cast-put-hex-word-2 c = search needs
 
--- src/hex.rt:43:9
 put-hex-word-requires-2 : tie.Need-put-hex-word-requires-2
 put-hex-word-requires-2 c κs = room-first (rooms-after (rooms-after (room (c .before .before .before .before .before .before .before .before .before .before .before)) (c .before .before .before .before .before .before .before .put-text .ensures .place)) (c .before .before .before .put-hex-word .ensures .place))
 
--- src/hex.rt:44:5
 put-newline-requires : tie.Need-put-newline-requires
 put-newline-requires c κs = room-first (rooms-after (rooms-after (rooms-after (room (c .before .before .before .before .before .before .before .before .before .before .before .before .before .before .before)) (c .before .before .before .before .before .before .before .before .before .before .before .put-text .ensures .place)) (c .before .before .before .before .before .before .before .put-hex-word .ensures .place)) (c .before .before .before .put-hex-word2 .ensures .place))
 
--- src/hex.rt:37:1
 same-length : tie.Need-same-length
 same-length c = search needs
 
--- src/hex.rt:37:1
 returns : tie.Need-returns
 unfolding traceText
 returns c = wrote-append (wrote-append (wrote-append (c .before .before .before .before .before .before .before .before .before .before .before .before .before .before .put-text .ensures) (c .before .before .before .before .before .before .before .before .before .before .put-hex-word .ensures)) (c .before .before .before .before .before .before .put-hex-word2 .ensures)) (c .before .before .put-newline .ensures)

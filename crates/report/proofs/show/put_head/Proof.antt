@@ -9,51 +9,35 @@ use Rattle.report.proofs.Written.{joined, after, Rooms, room-first, roo
 use borrow.Author.Needs.{needs}
 use Rattle.report.proofs.show.put_head.Statement.{statement}
 use Rattle.report.proofs.show.put_head.Tie as tie
-use Rattle.report.proofs.show.put_head.Reads as reads
-use Rattle.report.proofs.show.put_head.Lts as lts
-use Rattle.lists.proofs.memory.memory_of.Reads as memory-of-reads
-use Rattle.lists.proofs.reader.read.Reads as read-reads
-use Rattle.report.proofs.show.put_sizes.Reads as put-sizes-reads
-use Rattle.report.proofs.show.put_values.Reads as put-values-reads
-use Rattle.report.proofs.text.put_newline.Reads as put-newline-reads
 
 room : (c : tie.Start) → Rooms (c .args .at) (sizesText (readOf (now (c .args .list)) .sizes) ∷ series (valueField (memoryTable (now (c .args .list)))) (readOf (now (c .args .list)) .sizes .addresses) ∷ newline ∷ [])
 unfolding joined after headLine
 room c = record { all = c .pre }
 
--- src/show.rt:53:13
 read-requires : tie.Need-read-requires
 read-requires c κs = search needs
 
--- src/show.rt:54:17
 memory-of-requires : tie.Need-memory-of-requires
 memory-of-requires c κs = search needs
 
--- src/show.rt:55:9
 put-sizes-requires : tie.Need-put-sizes-requires
 put-sizes-requires c κs = rw (c .before .before .before .read .ensures) (room-first (room (c .before .before .before .before .before .before)))
 
--- src/show.rt:56:42
 slice-aggregate-put-values : tie.Need-slice-aggregate-put-values
 slice-aggregate-put-values c = search needs
 
--- src/show.rt:56:50
 cast-put-values : tie.Need-cast-put-values
 cast-put-values c = search needs
 
--- src/show.rt:56:9
 put-values-requires : tie.Need-put-values-requires
 put-values-requires c κs = (rw (c .before .before .before .before .before .before .before .before .before .read .ensures, c .before .before .before .before .before .before .before .memory-of .ensures) (room-first (rooms-after (room (c .before .before .before .before .before .before .before .before .before .before .before .before)) (rw (c .before .before .before .before .before .before .before .before .before .read .ensures) at (c .before .before .before .before .before .put-sizes .ensures .place)))), omega (arith, held (now (c .before .before .before .before .before .before .before .before .before .before .before .before .args .list)) (c .before .before .before .before .before .before .before .before .before .read .result) (c .before .before .before .before .before .before .before .before .before .read .ensures) .addresses-most, c .before .before .before .before .before .before .before .memory-of .ok))
 
--- src/show.rt:57:5
 put-newline-requires : tie.Need-put-newline-requires
 put-newline-requires c κs = room-first (rooms-after (rooms-after (room (c .before .before .before .before .before .before .before .before .before .before .before .before .before .before .before .before)) (rw (c .before .before .before .before .before .before .before .before .before .before .before .before .before .read .ensures) at (c .before .before .before .before .before .before .before .before .before .put-sizes .ensures .place))) (rw (c .before .before .before .before .before .before .before .before .before .before .before .before .before .read .ensures, c .before .before .before .before .before .before .before .before .before .before .before .memory-of .ensures) at (c .before .before .before .put-values .ensures .place)))
 
--- src/show.rt:49:1
 same-length : tie.Need-same-length
 same-length c = search needs
 
--- src/show.rt:49:1
 returns : tie.Need-returns
 unfolding headLine
 returns c = wrote-append (wrote-append (rw (c .before .before .before .before .before .before .before .before .before .before .before .before .before .before .before .before .read .ensures) at (c .before .before .before .before .before .before .before .before .before .before .before .before .put-sizes .ensures)) (rw (c .before .before .before .before .before .before .before .before .before .before .before .before .before .before .before .before .read .ensures, c .before .before .before .before .before .before .before .before .before .before .before .before .before .before .memory-of .ensures) at (c .before .before .before .before .before .before .put-values .ensures))) (c .before .before .put-newline .ensures)

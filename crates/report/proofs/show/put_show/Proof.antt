@@ -8,50 +8,36 @@ use Rattle.report.proofs.Steps.{show-refused, show-taken}
 use borrow.Author.Needs.{needs}
 use Rattle.report.proofs.show.put_show.Statement.{statement}
 use Rattle.report.proofs.show.put_show.Tie as tie
-use Rattle.report.proofs.show.put_show.Reads as reads
-use Rattle.report.proofs.show.put_show.Lts as lts
-use Rattle.report.proofs.account.put_account.Reads as put-account-reads
-use Rattle.report.proofs.account.put_refused.Reads as put-refused-reads
-use Rattle.report.proofs.show.put_head.Reads as put-head-reads
-use Rattle.report.proofs.show.put_step_lines.Reads as put-step-lines-reads
 
 room : (c : tie.Start) → c .args .c .number ≡ 0 → Rooms (c .args .at) (headLine (now (c .args .list)) ∷ stepLines (now (c .args .list)) (now (c .args .trace)) ∷ accountText (c .args .c) (now (c .args .account)) ∷ [])
 unfolding joined after
 room c e = record { all = rw (show-taken (now (c .args .list)) (c .args .c) (now (c .args .trace)) (now (c .args .account)) e) at (c .pre) }
 
--- src/show.rt:89:9
 put-refused-requires : tie.Need-put-refused-requires
 put-refused-requires c κs =
     let a = c .before .before .before .before .before .before .args in
     rw (show-refused (now (a .list)) (a .c) (now (a .trace)) (now (a .account)) (c .before .if1 .taken)) at (c .before .before .before .before .before .before .pre)
 
--- src/show.rt:89:9
 same-length : tie.Need-same-length
 same-length c = search needs
 
--- src/show.rt:89:9
 returns : tie.Need-returns
 returns c =
     let a = c .before .before .before .before .before .before .before .before .before .args in
     rw (show-refused (now (a .list)) (a .c) (now (a .trace)) (now (a .account)) (c .before .before .before .before .if1 .taken)) (c .before .before .put-refused .ensures)
 
--- src/show.rt:91:9
 put-head-requires : tie.Need-put-head-requires
 put-head-requires c κs = room-first (room (c .before .before .before .before .before .before) (c .before .if1 .left))
 
--- src/show.rt:92:9
 put-step-lines-requires : tie.Need-put-step-lines-requires
 put-step-lines-requires c κs = room-first (rooms-after (room (c .before .before .before .before .before .before .before .before .before .before) (c .before .before .before .before .before .if1 .left)) (c .before .before .before .put-head .ensures .place))
 
--- src/show.rt:93:5
 put-account-requires : tie.Need-put-account-requires
 put-account-requires c κs = room-first (rooms-after (rooms-after (room (c .before .before .before .before .before .before .before .before .before .before .before .before .before .before) (c .before .before .before .before .before .before .before .before .before .if1 .left)) (c .before .before .before .before .before .before .before .put-head .ensures .place)) (c .before .before .before .put-step-lines .ensures .place))
 
--- src/show.rt:83:1
 same-length-2 : tie.Need-same-length-2
 same-length-2 c = search needs
 
--- src/show.rt:83:1
 returns-2 : tie.Need-returns-2
 returns-2 c =
     let a = c .before .before .before .before .before .before .before .before .before .before .before .before .before .before .before .before .before .args in

@@ -6,64 +6,47 @@ use Rattle.report.proofs.Written.{joined, after, Rooms, room-first, roo
 use borrow.Author.Needs.{needs}
 use Rattle.report.proofs.show.put_sizes.Statement.{statement}
 use Rattle.report.proofs.show.put_sizes.Tie as tie
-use Rattle.report.proofs.show.put_sizes.Reads as reads
-use Rattle.report.proofs.show.put_sizes.Lts as lts
-use Rattle.report.proofs.decimal.put_labelled.Reads as put-labelled-reads
-use Rattle.report.proofs.text.put_text.Reads as put-text-reads
 
 room : (c : tie.Start) → Rooms (c .args .at) (labelled (ascii "engines ") (c .args .z .engines) ∷ labelled (ascii " addresses ") (c .args .z .addresses) ∷ labelled (ascii " depth ") (c .args .z .depth) ∷ ascii " memory" ∷ [])
 unfolding joined after sizesText
 room c = record { all = c .pre }
 
--- src/show.rt:30:46
 slice-aggregate-put-labelled : tie.Need-slice-aggregate-put-labelled
 slice-aggregate-put-labelled c = search needs
 
--- src/show.rt:30:59
 cast-put-labelled : tie.Need-cast-put-labelled
 cast-put-labelled c = search needs
 
--- src/show.rt:30:9
 put-labelled-requires : tie.Need-put-labelled-requires
 put-labelled-requires c κs = room-first (room (c .before .before .before .before))
 
--- src/show.rt:31:52
 slice-aggregate-put-labelled-2 : tie.Need-slice-aggregate-put-labelled-2
 slice-aggregate-put-labelled-2 c = search needs
 
--- src/show.rt:31:68
 cast-put-labelled-2 : tie.Need-cast-put-labelled-2
 cast-put-labelled-2 c = search needs
 
--- src/show.rt:31:9
 put-labelled-requires-2 : tie.Need-put-labelled-requires-2
 put-labelled-requires-2 c κs = room-first (rooms-after (room (c .before .before .before .before .before .before .before .before .before .before)) (c .before .before .before .before .before .put-labelled .ensures .place))
 
--- src/show.rt:32:49
 slice-aggregate-put-labelled-3 : tie.Need-slice-aggregate-put-labelled-3
 slice-aggregate-put-labelled-3 c = search needs
 
--- src/show.rt:32:61
 cast-put-labelled-3 : tie.Need-cast-put-labelled-3
 cast-put-labelled-3 c = search needs
 
--- src/show.rt:32:9
 put-labelled-requires-3 : tie.Need-put-labelled-requires-3
 put-labelled-requires-3 c κs = room-first (rooms-after (rooms-after (room (c .before .before .before .before .before .before .before .before .before .before .before .before .before .before .before .before)) (c .before .before .before .before .before .before .before .before .before .before .before .put-labelled .ensures .place)) (c .before .before .before .before .before .put-labelled2 .ensures .place))
 
--- src/show.rt:33:30
 slice-aggregate-put-text : tie.Need-slice-aggregate-put-text
 slice-aggregate-put-text c = search needs
 
--- src/show.rt:33:5
 put-text-requires : tie.Need-put-text-requires
 put-text-requires c κs = room-first (rooms-after (rooms-after (rooms-after (room (c .before .before .before .before .before .before .before .before .before .before .before .before .before .before .before .before .before .before .before .before .before)) (c .before .before .before .before .before .before .before .before .before .before .before .before .before .before .before .before .put-labelled .ensures .place)) (c .before .before .before .before .before .before .before .before .before .before .put-labelled2 .ensures .place)) (c .before .before .before .before .put-labelled3 .ensures .place))
 
--- src/show.rt:26:1
 same-length : tie.Need-same-length
 same-length c = search needs
 
--- src/show.rt:26:1
 returns : tie.Need-returns
 unfolding sizesText
 returns c = wrote-append (wrote-append (wrote-append (c .before .before .before .before .before .before .before .before .before .before .before .before .before .before .before .before .before .before .before .put-labelled .ensures) (c .before .before .before .before .before .before .before .before .before .before .before .before .before .put-labelled2 .ensures)) (c .before .before .before .before .before .before .before .put-labelled3 .ensures)) (c .before .before .put-text .ensures)

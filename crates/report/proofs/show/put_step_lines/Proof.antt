@@ -7,10 +7,6 @@ use Rattle.report.specs.Show.{stepLine, stepLines}
 use Rattle.report.proofs.Series.{Lining, lining-none, lining-room, lining-more, lining-long, lining-all}
 use Rattle.report.proofs.show.put_step_lines.Statement.{statement}
 use Rattle.report.proofs.show.put_step_lines.Tie as tie
-use Rattle.report.proofs.show.put_step_lines.Reads as reads
-use Rattle.report.proofs.show.put_step_lines.Lts as lts
-use Rattle.lists.proofs.reader.read.Reads as read-reads
-use Rattle.report.proofs.show.put_step_line.Reads as put-step-line-reads
 
 abbrev Inv-loop : tie.InvT-loop
 Inv-loop out₀ at list trace first n next₀ k₀ out next k = Lining (stepLine list first trace) n out₀ at out next k
@@ -18,36 +14,28 @@ Inv-loop out₀ at list trace first n next₀ k₀ out next k = Lining (stepLine
 abbrev μ-loop : tie.MeasureT-loop
 μ-loop out₀ at list trace first n next₀ k₀ out next k = n - k
 
--- src/show.rt:71:9
 read-requires : tie.Need-read-requires Inv-loop μ-loop
 read-requires c κs = tt
 
--- src/show.rt:76:5
 loop-holds : tie.Need-loop-holds Inv-loop μ-loop
 unfolding stepLines
 loop-holds c = rw (c .read .ensures) (lining-none (c .before .before .before .before .pre))
 
--- src/show.rt:77:9
 put-step-line-requires : tie.Need-put-step-line-requires Inv-loop μ-loop
 put-step-line-requires c κs = (lining-room (c .before .before .loop .inv) (c .before .loop-test .taken), omega (arith, held (now (c .before .before .before .before .before .before .before .args .list)) (c .before .before .before .read .result) (c .before .before .before .read .ensures) .actions-in))
 
--- src/show.rt:78:9
 add-k : tie.Need-add-k Inv-loop μ-loop
 add-k c = search needs
 
--- src/show.rt:76:5
 loop-less : tie.Need-loop-less Inv-loop μ-loop
 loop-less c = search needs
 
--- src/show.rt:76:5
 loop-again : tie.Need-loop-again Inv-loop μ-loop
 loop-again c = lining-more (c .before .before .before .before .before .loop .inv) (c .before .before .before .before .loop-test .taken) (c .before .before .put-step-line .ensures)
 
--- src/show.rt:67:1
 same-length : tie.Need-same-length Inv-loop μ-loop
 same-length c = lining-long (c .before .loop .inv)
 
--- src/show.rt:67:1
 returns : tie.Need-returns Inv-loop μ-loop
 unfolding stepLines
 returns c = rw (← (c .before .before .read .ensures)) (lining-all (c .before .loop .inv) (c .loop-test .left))

@@ -5,54 +5,38 @@ use Rattle.report.proofs.Written.{joined, after, Rooms, room-first, roo
 use borrow.Author.Needs.{needs}
 use Rattle.report.proofs.step.put_action.Statement.{statement}
 use Rattle.report.proofs.step.put_action.Tie as tie
-use Rattle.report.proofs.step.put_action.Reads as reads
-use Rattle.report.proofs.step.put_action.Lts as lts
-use Rattle.report.proofs.decimal.put_field.Reads as put-field-reads
-use Rattle.report.proofs.form.shows_address.Reads as shows-address-reads
-use Rattle.report.proofs.step.put_field_when.Reads as put-field-when-reads
-use Rattle.report.proofs.step.put_name.Reads as put-name-reads
 
 room : (c : tie.Start) → Rooms (c .args .at) (kindName (c .args .a .kind) ∷ field (c .args .a .engine .0) ∷ fieldWhen (showsAddress (c .args .a .kind)) (c .args .a .address .0) ∷ fieldWhen (showsData (c .args .a .kind)) (c .args .a .«data») ∷ [])
 unfolding joined after actionText
 room c = record { all = c .pre }
 
--- src/step.rt:58:9
 put-name-requires : tie.Need-put-name-requires
 put-name-requires c κs = room-first (room (c .before .before))
 
--- src/step.rt:59:48
 cast-put-field : tie.Need-cast-put-field
 cast-put-field c = search needs
 
--- src/step.rt:59:9
 put-field-requires : tie.Need-put-field-requires
 put-field-requires c κs = room-first (rooms-after (room (c .before .before .before .before .before .before .before)) (c .before .before .before .before .put-name .ensures .place))
 
--- src/step.rt:60:51
 shows-address-requires : tie.Need-shows-address-requires
 shows-address-requires c κs = search needs
 
--- src/step.rt:60:74
 cast-put-field-when : tie.Need-cast-put-field-when
 cast-put-field-when c = search needs
 
--- src/step.rt:60:9
 put-field-when-requires : tie.Need-put-field-when-requires
 put-field-when-requires c κs = rw (c .before .shows-address .ensures) (room-first (rooms-after (rooms-after (room (c .before .before .before .before .before .before .before .before .before .before .before .before .before)) (c .before .before .before .before .before .before .before .before .before .before .put-name .ensures .place)) (c .before .before .before .before .before .put-field .ensures .place)))
 
--- src/step.rt:61:47
 cast-put-field-when-2 : tie.Need-cast-put-field-when-2
 cast-put-field-when-2 c = search needs
 
--- src/step.rt:61:5
 put-field-when-requires-2 : tie.Need-put-field-when-requires-2
 put-field-when-requires-2 c κs = room-first (rooms-after (rooms-after (rooms-after (room (c .before .before .before .before .before .before .before .before .before .before .before .before .before .before .before .before .before .before .before)) (c .before .before .before .before .before .before .before .before .before .before .before .before .before .before .before .before .put-name .ensures .place)) (c .before .before .before .before .before .before .before .before .before .before .before .put-field .ensures .place)) (rw (c .before .before .before .before .before .before .before .shows-address .ensures) at (c .before .before .before .before .before .put-field-when .ensures .place)))
 
--- src/step.rt:54:1
 same-length : tie.Need-same-length
 same-length c = search needs
 
--- src/step.rt:54:1
 returns : tie.Need-returns
 unfolding actionText
 returns c = wrote-append (wrote-append (wrote-append (c .before .before .before .before .before .before .before .before .before .before .before .before .before .before .before .before .before .before .before .put-name .ensures) (c .before .before .before .before .before .before .before .before .before .before .before .before .before .before .put-field .ensures)) (rw (c .before .before .before .before .before .before .before .before .before .before .shows-address .ensures) at (c .before .before .before .before .before .before .before .before .put-field-when .ensures))) (c .before .before .put-field-when2 .ensures)

@@ -7,71 +7,50 @@ use Rattle.report.proofs.Written.{joined, after, Rooms, room-first, roo
 use borrow.Author.Needs.{needs}
 use Rattle.report.proofs.step.put_answer.Statement.{statement}
 use Rattle.report.proofs.step.put_answer.Tie as tie
-use Rattle.report.proofs.step.put_answer.Reads as reads
-use Rattle.report.proofs.step.put_answer.Lts as lts
-use Rattle.report.proofs.form.has_no_answer.Reads as has-no-answer-reads
-use Rattle.report.proofs.form.shows_address.Reads as shows-address-reads
-use Rattle.report.proofs.step.put_field_when.Reads as put-field-when-reads
-use Rattle.report.proofs.step.put_ok_when.Reads as put-ok-when-reads
-use Rattle.report.proofs.text.put_text.Reads as put-text-reads
 
 room : (c : tie.Start) → Rooms (c .args .at) (ascii " ->" ∷ fieldWhen (eqb (c .args .kind) 5) (c .args .e .origin .0) ∷ fieldWhen (not (showsAddress (c .args .kind))) (c .args .e .address .0) ∷ fieldWhen (not (noAnswer (c .args .kind))) (c .args .e .«data») ∷ okWhen (noAnswer (c .args .kind)) ∷ [])
 unfolding joined after answerText
 room c = record { all = c .pre }
 
--- src/step.rt:68:39
 slice-aggregate-put-text : tie.Need-slice-aggregate-put-text
 slice-aggregate-put-text c = search needs
 
--- src/step.rt:68:9
 put-text-requires : tie.Need-put-text-requires
 put-text-requires c κs = room-first (room (c .before .before .before))
 
--- src/step.rt:69:64
 cast-put-field-when : tie.Need-cast-put-field-when
 cast-put-field-when c = search needs
 
--- src/step.rt:69:9
 put-field-when-requires : tie.Need-put-field-when-requires
 put-field-when-requires c κs = room-first (rooms-after (room (c .before .before .before .before .before .before .before .before)) (c .before .before .before .before .put-text .ensures .place))
 
--- src/step.rt:70:52
 shows-address-requires : tie.Need-shows-address-requires
 shows-address-requires c κs = search needs
 
--- src/step.rt:70:73
 cast-put-field-when-2 : tie.Need-cast-put-field-when-2
 cast-put-field-when-2 c = search needs
 
--- src/step.rt:70:9
 put-field-when-requires-2 : tie.Need-put-field-when-requires-2
 put-field-when-requires-2 c κs = rw (c .before .shows-address .ensures) (room-first (rooms-after (rooms-after (room (c .before .before .before .before .before .before .before .before .before .before .before .before .before .before)) (c .before .before .before .before .before .before .before .before .before .before .put-text .ensures .place)) (c .before .before .before .before .before .put-field-when .ensures .place)))
 
--- src/step.rt:71:45
 has-no-answer-requires : tie.Need-has-no-answer-requires
 has-no-answer-requires c κs = search needs
 
--- src/step.rt:71:66
 cast-put-field-when-3 : tie.Need-cast-put-field-when-3
 cast-put-field-when-3 c = search needs
 
--- src/step.rt:71:9
 put-field-when-requires-3 : tie.Need-put-field-when-requires-3
 put-field-when-requires-3 c κs = rw (c .before .has-no-answer .ensures) (room-first (rooms-after (rooms-after (rooms-after (room (c .before .before .before .before .before .before .before .before .before .before .before .before .before .before .before .before .before .before .before .before)) (c .before .before .before .before .before .before .before .before .before .before .before .before .before .before .before .before .put-text .ensures .place)) (c .before .before .before .before .before .before .before .before .before .before .before .put-field-when .ensures .place)) (rw (c .before .before .before .before .before .before .before .shows-address .ensures) at (c .before .before .before .before .before .put-field-when2 .ensures .place))))
 
--- src/step.rt:72:27
 has-no-answer-requires-2 : tie.Need-has-no-answer-requires-2
 has-no-answer-requires-2 c κs = search needs
 
--- src/step.rt:72:5
 put-ok-when-requires : tie.Need-put-ok-when-requires
 put-ok-when-requires c κs = rw (c .has-no-answer2 .ensures) (room-first (rooms-after (rooms-after (rooms-after (rooms-after (room (c .before .before .before .before .before .before .before .before .before .before .before .before .before .before .before .before .before .before .before .before .before .before .before .before .before)) (c .before .before .before .before .before .before .before .before .before .before .before .before .before .before .before .before .before .before .before .before .before .put-text .ensures .place)) (c .before .before .before .before .before .before .before .before .before .before .before .before .before .before .before .before .put-field-when .ensures .place)) (rw (c .before .before .before .before .before .before .before .before .before .before .before .before .shows-address .ensures) at (c .before .before .before .before .before .before .before .before .before .before .put-field-when2 .ensures .place))) (rw (c .before .before .before .before .before .before .has-no-answer .ensures) at (c .before .before .before .before .put-field-when3 .ensures .place))))
 
--- src/step.rt:64:1
 same-length : tie.Need-same-length
 same-length c = search needs
 
--- src/step.rt:64:1
 returns : tie.Need-returns
 unfolding answerText
 returns c = wrote-append (wrote-append (wrote-append (wrote-append (c .before .before .before .before .before .before .before .before .before .before .before .before .before .before .before .before .before .before .before .before .before .before .before .before .put-text .ensures) (c .before .before .before .before .before .before .before .before .before .before .before .before .before .before .before .before .before .before .before .put-field-when .ensures)) (rw (c .before .before .before .before .before .before .before .before .before .before .before .before .before .before .before .shows-address .ensures) at (c .before .before .before .before .before .before .before .before .before .before .before .before .before .put-field-when2 .ensures))) (rw (c .before .before .before .before .before .before .before .before .before .has-no-answer .ensures) at (c .before .before .before .before .before .before .before .put-field-when3 .ensures))) (rw (c .before .before .before .has-no-answer2 .ensures) at (c .before .before .put-ok-when .ensures))

@@ -7,32 +7,23 @@ use Rattle.report.proofs.Written.{joined, after, Rooms, room-first, roo
 use borrow.Author.Needs.{needs}
 use Rattle.report.proofs.step.put_bytes.Statement.{statement}
 use Rattle.report.proofs.step.put_bytes.Tie as tie
-use Rattle.report.proofs.step.put_bytes.Reads as reads
-use Rattle.report.proofs.step.put_bytes.Lts as lts
-use Rattle.report.proofs.step.put_record_bytes.Reads as put-record-bytes-reads
-use Rattle.report.proofs.text.put_text.Reads as put-text-reads
 
 room : (c : tie.Start) → Rooms (c .args .at) (ascii " bytes" ∷ series (byteField (now (c .args .list)) (c .args .i)) recordWidth ∷ [])
 unfolding joined after bytesText
 room c = record { all = c .pre .0 }
 
--- src/step.rt:111:34
 slice-aggregate-put-text : tie.Need-slice-aggregate-put-text
 slice-aggregate-put-text c = search needs
 
--- src/step.rt:111:9
 put-text-requires : tie.Need-put-text-requires
 put-text-requires c κs = room-first (room (c .before .before .before .before))
 
--- src/step.rt:112:5
 put-record-bytes-requires : tie.Need-put-record-bytes-requires
 put-record-bytes-requires c κs = ((room-first (rooms-after (room (c .before .before .before .before .before .before .before .before)) (c .before .before .before .put-text .ensures .place))), c .before .before .before .before .before .before .before .before .pre .1)
 
--- src/step.rt:107:1
 same-length : tie.Need-same-length
 same-length c = search needs
 
--- src/step.rt:107:1
 returns : tie.Need-returns
 unfolding bytesText
 returns c = wrote-append (c .before .before .before .before .before .before .put-text .ensures) (c .before .before .put-record-bytes .ensures)

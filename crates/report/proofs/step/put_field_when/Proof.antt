@@ -2,23 +2,16 @@ use Rattle.report.proofs.Steps.{wrote-none, field-shown, field-left}
 use borrow.Author.Needs.{needs}
 use Rattle.report.proofs.step.put_field_when.Statement.{statement}
 use Rattle.report.proofs.step.put_field_when.Tie as tie
-use Rattle.report.proofs.step.put_field_when.Reads as reads
-use Rattle.report.proofs.step.put_field_when.Lts as lts
-use Rattle.report.proofs.decimal.put_field.Reads as put-field-reads
 
--- src/step.rt:39:9
 put-field-requires : tie.Need-put-field-requires
 put-field-requires c κs = rw (field-shown (c .before .before .before .args .shown) (c .before .before .before .args .n) (c .before .if1 .taken)) at (c .before .before .before .pre)
 
--- src/step.rt:39:9
 same-length : tie.Need-same-length
 same-length c = search needs
 
--- src/step.rt:39:9
 returns : tie.Need-returns
 returns c = rw (field-shown (c .before .before .before .before .before .before .args .shown) (c .before .before .before .before .before .before .args .n) (c .before .before .before .before .if1 .taken)) (c .before .before .put-field .ensures)
 
--- src/step.rt:34:1
 returns-2 : tie.Need-returns-2
 returns-2 c = rw (field-left (c .before .before .args .shown) (c .before .before .args .n) (c .if1 .left)) wrote-none
 

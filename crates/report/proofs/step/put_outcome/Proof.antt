@@ -2,32 +2,22 @@ use Rattle.report.proofs.Steps.{outcome-refused, outcome-taken}
 use borrow.Author.Needs.{needs}
 use Rattle.report.proofs.step.put_outcome.Statement.{statement}
 use Rattle.report.proofs.step.put_outcome.Tie as tie
-use Rattle.report.proofs.step.put_outcome.Reads as reads
-use Rattle.report.proofs.step.put_outcome.Lts as lts
-use Rattle.report.proofs.step.put_answer.Reads as put-answer-reads
-use Rattle.report.proofs.step.put_refusal.Reads as put-refusal-reads
 
--- src/step.rt:87:9
 put-refusal-requires : tie.Need-put-refusal-requires
 put-refusal-requires c κs = rw (outcome-refused (c .before .before .before .before .args .kind) (c .before .before .before .before .args .e) (c .before .if1 .taken)) at (c .before .before .before .before .pre)
 
--- src/step.rt:87:9
 same-length : tie.Need-same-length
 same-length c = search needs
 
--- src/step.rt:87:9
 returns : tie.Need-returns
 returns c = rw (outcome-refused (c .before .before .before .before .before .before .before .args .kind) (c .before .before .before .before .before .before .before .args .e) (c .before .before .before .before .if1 .taken)) (c .before .before .put-refusal .ensures)
 
--- src/step.rt:89:5
 put-answer-requires : tie.Need-put-answer-requires
 put-answer-requires c κs = rw (outcome-taken (c .before .before .before .before .args .kind) (c .before .before .before .before .args .e) (c .before .if1 .left)) at (c .before .before .before .before .pre)
 
--- src/step.rt:82:1
 same-length-2 : tie.Need-same-length-2
 same-length-2 c = search needs
 
--- src/step.rt:82:1
 returns-2 : tie.Need-returns-2
 returns-2 c = rw (outcome-taken (c .before .before .before .before .before .before .before .args .kind) (c .before .before .before .before .before .before .before .args .e) (c .before .before .before .before .if1 .left)) (c .before .before .put-answer .ensures)
 

@@ -10,10 +10,6 @@ use Rattle.report.proofs.Written.{joined, after, Rooms, room-first, roo
 use Rattle.report.proofs.Series.{Lining, lining-none, lining-room, lining-more, lining-long, lining-all}
 use Rattle.report.proofs.step.put_record_bytes.Statement.{statement}
 use Rattle.report.proofs.step.put_record_bytes.Tie as tie
-use Rattle.report.proofs.step.put_record_bytes.Reads as reads
-use Rattle.report.proofs.step.put_record_bytes.Lts as lts
-use Rattle.report.proofs.hex.put_hex_byte.Reads as put-hex-byte-reads
-use Rattle.report.proofs.text.put_byte.Reads as put-byte-reads
 
 abbrev Inv-loop : tie.InvT-loop
 Inv-loop out₀ at list i next₀ k₀ out next k = Lining (byteField list i) recordWidth out₀ at out next k
@@ -25,47 +21,36 @@ spaced : {n : ℕ} {text : List ℕ} → Room n (ascii " " ++ text) → Rooms n 
 unfolding joined after
 spaced p = record { all = p }
 
--- src/step.rt:99:5
 loop-holds : tie.Need-loop-holds Inv-loop μ-loop
 loop-holds c = lining-none (c .before .before .pre .0)
 
--- src/step.rt:100:9
 put-byte-requires : tie.Need-put-byte-requires Inv-loop μ-loop
 put-byte-requires c κs = search needs
 
--- src/step.rt:101:34
 add-put-hex-byte : tie.Need-add-put-hex-byte Inv-loop μ-loop
 add-put-hex-byte c = omega (arith, room-first (spaced (lining-room (c .before .before .before .before .before .before .loop .inv) (c .before .before .before .before .before .loop-test .taken))))
 
--- src/step.rt:101:49
 add-put-hex-byte-2 : tie.Need-add-put-hex-byte-2 Inv-loop μ-loop
 add-put-hex-byte-2 c = omega (arith, c .before .before .before .before .before .before .before .before .before .pre .1)
 
--- src/step.rt:101:44
 shared-slice-read-put-hex-byte : tie.Need-shared-slice-read-put-hex-byte Inv-loop μ-loop
 shared-slice-read-put-hex-byte c = omega (arith, c .before .before .before .before .before .before .before .before .before .before .pre .1)
 
--- src/step.rt:101:9
 put-hex-byte-requires : tie.Need-put-hex-byte-requires Inv-loop μ-loop
 put-hex-byte-requires c κs = room-first (rooms-after (spaced (lining-room (c .before .before .before .before .before .before .before .loop .inv) (c .before .before .before .before .before .before .loop-test .taken))) refl)
 
--- src/step.rt:102:9
 add-k : tie.Need-add-k Inv-loop μ-loop
 add-k c = search needs
 
--- src/step.rt:99:5
 loop-less : tie.Need-loop-less Inv-loop μ-loop
 loop-less c = search needs
 
--- src/step.rt:99:5
 loop-again : tie.Need-loop-again Inv-loop μ-loop
 loop-again c = lining-more (c .before .before .before .before .before .before .before .before .before .before .loop .inv) (c .before .before .before .before .before .before .before .before .before .loop-test .taken) (wrote-append (wrote-one (c .before .before .before .before .before .before .before .put-byte .ensures)) (c .before .before .put-hex-byte .ensures))
 
--- src/step.rt:93:1
 same-length : tie.Need-same-length Inv-loop μ-loop
 same-length c = lining-long (c .before .loop .inv)
 
--- src/step.rt:93:1
 returns : tie.Need-returns Inv-loop μ-loop
 returns c = lining-all (c .before .loop .inv) (c .loop-test .left)
 

@@ -9,14 +9,6 @@ use Rattle.report.proofs.Steps.{step-well, step-badly}
 use borrow.Author.Needs.{needs}
 use Rattle.report.proofs.step.put_step.Statement.{statement}
 use Rattle.report.proofs.step.put_step.Tie as tie
-use Rattle.report.proofs.step.put_step.Reads as reads
-use Rattle.report.proofs.step.put_step.Lts as lts
-use Rattle.lists.proofs.bytes.record_at.Reads as record-at-reads
-use Rattle.report.proofs.form.is_well_formed.Reads as is-well-formed-reads
-use Rattle.report.proofs.step.put_action.Reads as put-action-reads
-use Rattle.report.proofs.step.put_bytes.Reads as put-bytes-reads
-use Rattle.report.proofs.step.put_outcome.Reads as put-outcome-reads
-use Rattle.report.proofs.step.put_refusal.Reads as put-refusal-reads
 
 -- what the test says of the action
 tested : (c : tie.After-is-well-formed) → wellFormed (recordAt (now (c .before .before .before .before .args .list)) (c .before .before .before .before .args .i)) ≡ c .is-well-formed .result
@@ -30,46 +22,36 @@ badly : (c : tie.Start) → wellFormed (recordAt (now (c .args .list)) (c .args 
 unfolding joined after
 badly c h = record { all = rw (step-badly (now (c .args .list)) (c .args .i) (c .args .e) h) at (c .pre .0) }
 
--- src/step.rt:120:9
 record-at-requires : tie.Need-record-at-requires
 record-at-requires c κs = search needs
 
--- src/step.rt:121:8
 is-well-formed-requires : tie.Need-is-well-formed-requires
 is-well-formed-requires c κs = search needs
 
--- src/step.rt:122:13
 put-action-requires : tie.Need-put-action-requires
 put-action-requires c κs = rw (c .before .before .before .record-at .ensures) (room-first (well (c .before .before .before .before .before .before) (tested (c .before .before) ∙ c .before .if1 .taken)))
 
--- src/step.rt:123:9
 put-outcome-requires : tie.Need-put-outcome-requires
 put-outcome-requires c κs = rw (c .before .before .before .before .before .before .before .record-at .ensures) (room-first (rooms-after (well (c .before .before .before .before .before .before .before .before .before .before) (tested (c .before .before .before .before .before .before) ∙ c .before .before .before .before .before .if1 .taken)) (rw (c .before .before .before .before .before .before .before .record-at .ensures) at (c .before .before .before .put-action .ensures .place))))
 
--- src/step.rt:123:9
 same-length : tie.Need-same-length
 same-length c = search needs
 
--- src/step.rt:123:9
 returns : tie.Need-returns
 returns c =
     let a = c .before .before .before .before .before .before .before .before .before .before .before .before .before .args in
     let e = c .before .before .before .before .before .before .before .before .before .before .record-at .ensures in
     rw (step-well (now (a .list)) (a .i) (a .e) (tested (c .before .before .before .before .before .before .before .before .before) ∙ c .before .before .before .before .before .before .before .before .if1 .taken)) (wrote-append (rw (e) at (c .before .before .before .before .before .before .put-action .ensures)) (rw (e) at (c .before .before .put-outcome .ensures)))
 
--- src/step.rt:125:9
 put-bytes-requires : tie.Need-put-bytes-requires
 put-bytes-requires c κs = (room-first (badly (c .before .before .before .before .before .before) (tested (c .before .before) ∙ c .before .if1 .left)), c .before .before .before .before .before .before .pre .1)
 
--- src/step.rt:126:5
 put-refusal-requires : tie.Need-put-refusal-requires
 put-refusal-requires c κs = room-first (rooms-after (badly (c .before .before .before .before .before .before .before .before .before .before) (tested (c .before .before .before .before .before .before) ∙ c .before .before .before .before .before .if1 .left)) (c .before .before .before .put-bytes .ensures .place))
 
--- src/step.rt:116:1
 same-length-2 : tie.Need-same-length-2
 same-length-2 c = search needs
 
--- src/step.rt:116:1
 returns-2 : tie.Need-returns-2
 returns-2 c =
     let a = c .before .before .before .before .before .before .before .before .before .before .before .before .before .args in

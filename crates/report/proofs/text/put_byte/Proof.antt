@@ -4,22 +4,16 @@ use lib.Seq.{set-out}
 use borrow.Author.Needs.{needs}
 use Rattle.report.proofs.text.put_byte.Statement.{statement}
 use Rattle.report.proofs.text.put_byte.Tie as tie
-use Rattle.report.proofs.text.put_byte.Reads as reads
-use Rattle.report.proofs.text.put_byte.Lts as lts
 
--- src/text.rt:11:9
 slice-write-out : tie.Need-slice-write-out
 slice-write-out c = search needs
 
--- src/text.rt:7:1
 same-length : tie.Need-same-length
 same-length c = search needs
 
--- src/text.rt:7:1
 returns : tie.Need-returns
 returns c = search needs
 
--- src/text.rt:7:1
 returns-2 : tie.Need-returns-2
 returns-2 c =
     let a = c .before .args in

@@ -2,31 +2,22 @@ use Rattle.report.proofs.Written.{wrote-two}
 use borrow.Author.Needs.{needs}
 use Rattle.report.proofs.text.put_letter.Statement.{statement}
 use Rattle.report.proofs.text.put_letter.Tie as tie
-use Rattle.report.proofs.text.put_letter.Reads as reads
-use Rattle.report.proofs.text.put_letter.Lts as lts
-use Rattle.report.proofs.text.put_byte.Reads as put-byte-reads
 
--- src/text.rt:32:5
 put-byte-requires : tie.Need-put-byte-requires
 put-byte-requires c κs = search needs
 
--- src/text.rt:33:19
 add-put-byte : tie.Need-add-put-byte
 add-put-byte c = search needs
 
--- src/text.rt:33:5
 put-byte-requires-2 : tie.Need-put-byte-requires-2
 put-byte-requires-2 c κs = search needs
 
--- src/text.rt:34:5
 add-result : tie.Need-add-result
 add-result c = search needs
 
--- src/text.rt:28:1
 same-length : tie.Need-same-length
 same-length c = search needs
 
--- src/text.rt:28:1
 returns : tie.Need-returns
 returns c = wrote-two (c .before .before .before .before .before .before .put-byte .ensures) (c .before .before .put-byte2 .ensures)
 

@@ -5,9 +5,6 @@ use borrow.Author.Needs.{needs}
 use Rattle.report.proofs.Written.{Putting, putting-none, putting-more, putting-long, putting-all}
 use Rattle.report.proofs.text.put_text.Statement.{statement}
 use Rattle.report.proofs.text.put_text.Tie as tie
-use Rattle.report.proofs.text.put_text.Reads as reads
-use Rattle.report.proofs.text.put_text.Lts as lts
-use Rattle.report.proofs.text.put_byte.Reads as put-byte-reads
 
 abbrev Inv-loop : tie.InvT-loop
 Inv-loop out₀ at text i₀ out i = Putting text out₀ at out i
@@ -15,43 +12,33 @@ Inv-loop out₀ at text i₀ out i = Putting text out₀ at out i
 abbrev μ-loop : tie.MeasureT-loop
 μ-loop out₀ at text i₀ out i = length text - i
 
--- src/text.rt:20:5
 loop-holds : tie.Need-loop-holds Inv-loop μ-loop
 loop-holds c = putting-none (c .before .before .pre)
 
--- src/text.rt:21:23
 add-put-byte : tie.Need-add-put-byte Inv-loop μ-loop
 add-put-byte c = search needs
 
--- src/text.rt:21:31
 shared-slice-read-put-byte : tie.Need-shared-slice-read-put-byte Inv-loop μ-loop
 shared-slice-read-put-byte c = search needs
 
--- src/text.rt:21:9
 put-byte-requires : tie.Need-put-byte-requires Inv-loop μ-loop
 put-byte-requires c κs = search needs
 
--- src/text.rt:22:9
 add-i : tie.Need-add-i Inv-loop μ-loop
 add-i c = search needs
 
--- src/text.rt:20:5
 loop-less : tie.Need-loop-less Inv-loop μ-loop
 loop-less c = search needs
 
--- src/text.rt:20:5
 loop-again : tie.Need-loop-again Inv-loop μ-loop
 loop-again c = putting-more (c .before .before .before .before .before .before .loop .inv) (c .before .before .before .before .before .loop-test .taken) (c .before .before .put-byte .ensures)
 
--- src/text.rt:24:5
 add-result : tie.Need-add-result Inv-loop μ-loop
 add-result c = search needs
 
--- src/text.rt:15:1
 same-length : tie.Need-same-length Inv-loop μ-loop
 same-length c = putting-long (c .before .loop .inv)
 
--- src/text.rt:15:1
 returns : tie.Need-returns Inv-loop μ-loop
 returns c = putting-all (c .before .loop .inv) (omega arith)
 
