@@ -34,6 +34,8 @@ need_program() { # NAME
     command -v rt >/dev/null || die "target/bin/$1 is to be proved and built, and rt is not on the PATH"
     say "proving and building $1 with rt (some minutes, on first use; rt's own words go to target/setup-$1.log)"
     mkdir -p "$root/target" || die "target/ cannot be made"
+    # where only the program is gone, rt's stamp would say that there is nothing to do
+    [ -x "$made" ] || rm -f "$root/target/stamp/$1"
     if ! (cd "$root" && rt check "$1") >"$log" 2>&1 || [ ! -x "$made" ]; then
         tail -n 3 "$log" >&2
         die "rt check $1 failed"
