@@ -14,11 +14,11 @@ use Rattle.history.specs.declared.Counts.{Counts}
 use Rattle.lists.specs.Bytes.{rows, each, u32At, u32Bytes}
 use Rattle.lists.specs.Read.{readOf, readRefused, layoutOf, memoryOf, actionsOf, listBytes, bodyOf}
 use Rattle.lists.specs.Record.{recordBytes}
-use Rattle.store.specs.Fresh.{freshOf}
-use Rattle.store.specs.Parts.{all}
-use Rattle.store.specs.Sound.{soundOf}
-use Rattle.store.specs.Step.{stepped, stepRefused, formRefused, turnRefused}
-use Rattle.store.specs.Turns.{storeAfter, traceAfter}
+use Rattle.shape.specs.Fresh.{freshOf}
+use Rattle.shape.specs.Parts.{all}
+use Rattle.shape.specs.Sound.{soundOf}
+use Rattle.shape.specs.Step.{stepped, stepRefused, formRefused, turnRefused}
+use Rattle.shape.specs.Turns.{storeAfter, traceAfter}
 use Rattle.figure.proofs.Laws.{and-left, and-right}
 use Rattle.cases.specs.Case.{Case, rec, Holds, Turn, Line, listOf, runNumberOf, storeOf, outsOf, countsOf}
 use Rattle.cases.specs.Cases.{B1, cases}

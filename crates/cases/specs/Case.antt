@@ -12,11 +12,11 @@ use Rattle.history.specs.declared.Counts.{Counts}
 use Rattle.lists.specs.Bytes.{rows, u32Bytes}
 use Rattle.lists.specs.Read.{listBytes}
 use Rattle.lists.specs.Record.{recordWidth, recordBytes}
-use Rattle.store.specs.Parts.{outOf}
-use Rattle.store.specs.Turns.{storeAfter}
-use Rattle.store.specs.declared.OutEntry.{OutEntry}
-use Rattle.store.specs.declared.OutQueue.{OutQueue}
-use Rattle.store.specs.declared.Store.{Store}
+use Rattle.shape.specs.Parts.{outOf}
+use Rattle.shape.specs.Turns.{storeAfter}
+use Rattle.shape.specs.declared.OutEntry.{OutEntry}
+use Rattle.shape.specs.declared.OutQueue.{OutQueue}
+use Rattle.shape.specs.declared.Store.{Store}
 
 -- ---- actions, as document 01 writes them
 

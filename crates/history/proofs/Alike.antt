@@ -5,10 +5,10 @@ use Prim.Native.Nat.{ℕ, zero, suc, _<_}
 use native.Mathlib.Omega.{arith}
 use lib.ListN.{length, length-append}
 use Rattle.figure.specs.declared.Record.{Record}
-use Rattle.store.specs.Step.{stepped}
-use Rattle.store.specs.Trace.{traced}
-use Rattle.store.specs.Turns.{storeAfter, traceAfter}
-use Rattle.store.specs.declared.Store.{Store}
+use Rattle.shape.specs.Step.{stepped}
+use Rattle.shape.specs.Trace.{traced}
+use Rattle.shape.specs.Turns.{storeAfter, traceAfter}
+use Rattle.shape.specs.declared.Store.{Store}
 
 module _ (s : Store) (x y : ℕ → Record) where
   pub store-alike : (n : ℕ) → ((k : ℕ) → k < n → x k ≡ y k) → storeAfter s x n ≡ storeAfter s y n

@@ -21,9 +21,9 @@ use Rattle.lists.specs.Write.{unless}
 use Rattle.lists.specs.declared.reader.Layout.{Layout}
 use Rattle.lists.proofs.Put.{put-front, length-put}
 use Rattle.lists.proofs.Sized.{read-number, read-numbered, sized}
-use Rattle.store.specs.Turns.{actionAt, storeAfter}
-use Rattle.store.specs.declared.OutQueue.{OutQueue}
-use Rattle.store.specs.declared.Store.{Store}
+use Rattle.shape.specs.Turns.{actionAt, storeAfter}
+use Rattle.shape.specs.declared.OutQueue.{OutQueue}
+use Rattle.shape.specs.declared.Store.{Store}
 use Rattle.history.proofs.Addresses.{below-account}
 use Rattle.history.proofs.LineLaws.{Below, below-wider, agrees-memory, serial-laid, length-account}
 use Rattle.history.proofs.Runs.{runMemory, runSteps, run-book}

@@ -19,9 +19,9 @@ use Rattle.figure.proofs.Serial.{Linked, Inv, inv-fresh, inv-run}
 use Rattle.figure.proofs.Theorem.{right}
 use Rattle.lists.specs.Bytes.{rows}
 use Rattle.lists.proofs.Rows.{rows-append}
-use Rattle.store.specs.Parts.{outOf, noOut}
-use Rattle.store.specs.View.{eventView, outView}
-use Rattle.store.specs.declared.OutQueue.{OutQueue}
+use Rattle.shape.specs.Parts.{outOf, noOut}
+use Rattle.shape.specs.View.{eventView, outView}
+use Rattle.shape.specs.declared.OutQueue.{OutQueue}
 use Rattle.history.specs.Lines.{itemRecord, lineBytes, slotLines, noNumber, accountBytes}
 use Rattle.history.specs.Pieces.{takenAt, nowhere, floorsAt, keysBelow, recordsBelow, lowestFloor, addIf, inSlot, sortedBelow, lineOf, placedLine, tailLines, totalLen}
 use Rattle.history.proofs.Fitting.{eventsBelow, records-long, book-is, fits-run}

@@ -27,17 +27,17 @@ use Rattle.lists.specs.Write.{writeRefused, unless, Wrote}
 use Rattle.lists.specs.declared.writer.Written.{Written}
 use Rattle.lists.proofs.RoundTrip.{Holds, reads-back, Rewritten, writes-back}
 use Rattle.lists.proofs.Sized.{numbered-append, none-split, read-number, read-numbered}
-use Rattle.store.specs.Fresh.{freshOf, freshRefused, made, zeros}
-use Rattle.store.specs.Sound.{soundOf}
-use Rattle.store.specs.Step.{formRefused, stepRefused, actionOf, stepped}
-use Rattle.store.specs.Trace.{traced}
-use Rattle.store.specs.Turns.{storeAfter, traceAfter}
-use Rattle.store.specs.View.{view, eventView}
-use Rattle.store.specs.declared.Store.{Store}
-use Rattle.store.proofs.Bridge.{formed-accepts, formed-next, formed-tells}
-use Rattle.store.proofs.Kept.{refused-keeps}
-use Rattle.store.proofs.Numbers.{step-number, step-zero, zero-step, made-number, made-zeros}
-use Rattle.store.proofs.Shaped.{Shaped}
+use Rattle.shape.specs.Fresh.{freshOf, freshRefused, made, zeros}
+use Rattle.shape.specs.Sound.{soundOf}
+use Rattle.shape.specs.Step.{formRefused, stepRefused, actionOf, stepped}
+use Rattle.shape.specs.Trace.{traced}
+use Rattle.shape.specs.Turns.{storeAfter, traceAfter}
+use Rattle.shape.specs.View.{view, eventView}
+use Rattle.shape.specs.declared.Store.{Store}
+use Rattle.shape.proofs.Bridge.{formed-accepts, formed-next, formed-tells}
+use Rattle.shape.proofs.Kept.{refused-keeps}
+use Rattle.shape.proofs.Numbers.{step-number, step-zero, zero-step, made-number, made-zeros}
+use Rattle.shape.proofs.Shaped.{Shaped}
 use Rattle.history.proofs.Alike.{length-trace}
 use Rattle.history.proofs.Follows.{stepsBelow, Followed}
 use Rattle.history.proofs.LineLaws.{length-account}

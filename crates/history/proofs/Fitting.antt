@@ -14,7 +14,7 @@ use Rattle.figure.specs.Account.{Event, refused, read, wrote, published, refres
 use Rattle.figure.proofs.Laws.{and-left, leave}
 use Rattle.figure.proofs.Run.{book-append}
 use Rattle.figure.proofs.Serial.{View, Linked, nil, one, Inv, inv-next}
-use Rattle.store.specs.View.{eventView}
+use Rattle.shape.specs.View.{eventView}
 use Rattle.history.specs.Pieces.{recordsBelow}
 
 -- the oldest of the writes is i's write of d at a

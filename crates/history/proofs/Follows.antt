@@ -10,16 +10,16 @@ use Rattle.figure.specs.declared.Record.{Record}
 use Rattle.figure.specs.declared.Sizes.{Sizes}
 use Rattle.figure.proofs.Respects.{Agrees, agrees-trans, accepted-agrees, next-agrees, event-agrees}
 use Rattle.figure.proofs.Run.{after-append, trace-append}
-use Rattle.store.specs.Sound.{soundOf}
-use Rattle.store.specs.Step.{stepped}
-use Rattle.store.specs.Trace.{traced}
-use Rattle.store.specs.Turns.{storeAfter, traceAfter}
-use Rattle.store.specs.View.{view, stepView, eventView}
-use Rattle.store.specs.declared.Store.{Store}
-use Rattle.store.proofs.Bridge.{steps, tells}
-use Rattle.store.proofs.Kept.{keeps-sound, keeps-sizes}
-use Rattle.store.proofs.Places.{map-end}
-use Rattle.store.proofs.Shaped.{Shaped, keeps-shaped}
+use Rattle.shape.specs.Sound.{soundOf}
+use Rattle.shape.specs.Step.{stepped}
+use Rattle.shape.specs.Trace.{traced}
+use Rattle.shape.specs.Turns.{storeAfter, traceAfter}
+use Rattle.shape.specs.View.{view, stepView, eventView}
+use Rattle.shape.specs.declared.Store.{Store}
+use Rattle.shape.proofs.Bridge.{steps, tells}
+use Rattle.shape.proofs.Kept.{keeps-sound, keeps-sizes}
+use Rattle.shape.proofs.Places.{map-end}
+use Rattle.shape.proofs.Shaped.{Shaped, keeps-shaped}
 
 -- ---- two states that agree take a step alike
 

@@ -21,9 +21,9 @@ use Rattle.lists.proofs.Each.{length-each}
 use Rattle.lists.proofs.Numbers.{record-drop, record-back}
 use Rattle.lists.proofs.Rows.{length-rows}
 use Rattle.lists.proofs.Sized.{held}
-use Rattle.store.specs.Parts.{outOf, noOut}
-use Rattle.store.specs.declared.OutEntry.{OutEntry}
-use Rattle.store.specs.declared.OutQueue.{OutQueue}
+use Rattle.shape.specs.Parts.{outOf, noOut}
+use Rattle.shape.specs.declared.OutEntry.{OutEntry}
+use Rattle.shape.specs.declared.OutQueue.{OutQueue}
 use Rattle.history.proofs.Testing.{serial-more}
 use Rattle.history.specs.Lines.{itemRecord, lineWidth, noNumber, lineBytes, slotLines, accountBytes}
 use Rattle.history.specs.Pieces.{lineOf, placedLine, writeRecord, queueLines, tailLines, totalLen, serialLines}

@@ -18,12 +18,12 @@ use Rattle.lists.specs.Read.{readOf, memoryOf, actionsOf}
 use Rattle.lists.proofs.Actions.{length-actions}
 use Rattle.lists.proofs.Each.{length-each}
 use Rattle.lists.proofs.Sized.{sized}
-use Rattle.store.specs.Fresh.{freshOf, freshRefused}
-use Rattle.store.specs.Turns.{storeAfter, traceAfter}
-use Rattle.store.specs.View.{stepView, eventView}
-use Rattle.store.proofs.Bridge.{fresh-agrees}
-use Rattle.store.proofs.Kept.{fresh-sound, sizes-numbered}
-use Rattle.store.proofs.Shaped.{fresh-shaped}
+use Rattle.shape.specs.Fresh.{freshOf, freshRefused}
+use Rattle.shape.specs.Turns.{storeAfter, traceAfter}
+use Rattle.shape.specs.View.{stepView, eventView}
+use Rattle.shape.proofs.Bridge.{fresh-agrees}
+use Rattle.shape.proofs.Kept.{fresh-sound, sizes-numbered}
+use Rattle.shape.proofs.Shaped.{fresh-shaped}
 use Rattle.history.proofs.Follows.{stepsBelow, Followed, follows}
 use Rattle.history.specs.Run.{runSizes, runFresh, runAction, runTrace, runBook}
 

@@ -11,8 +11,8 @@ use borrow.Author.Tests.{leb-true, leb-false}
 use Rattle.lists.specs.Bytes.{put}
 use Rattle.lists.proofs.Put.{put-put, length-put}
 use Rattle.lists.proofs.Rows.{put-none}
-use Rattle.store.specs.Parts.{outOf, noOut}
-use Rattle.store.specs.declared.OutQueue.{OutQueue}
+use Rattle.shape.specs.Parts.{outOf, noOut}
+use Rattle.shape.specs.declared.OutQueue.{OutQueue}
 use Rattle.history.specs.Lines.{lineWidth}
 use Rattle.history.specs.Pieces.{queueLines, tailLines, totalLen}
 use Rattle.history.proofs.LineLaws.{length-queue, length-tail}

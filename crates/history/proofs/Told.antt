@@ -7,7 +7,7 @@ use borrow.Author.Tests.{eqb-true}
 use Rattle.figure.specs.Account.{Event, read, published, updated, Book, note}
 use Rattle.figure.specs.Refusals.{pick}
 use Rattle.figure.specs.declared.Record.{Record}
-use Rattle.store.specs.View.{eventView}
+use Rattle.shape.specs.View.{eventView}
 
 -- the last: the book keeps its slots and floors
 pub data Told (r : Record) : Event → Type 0 where

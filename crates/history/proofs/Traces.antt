@@ -18,11 +18,11 @@ use Rattle.lists.proofs.Numbers.{record-drop, record-back}
 use Rattle.lists.proofs.Rows.{length-rows}
 use Rattle.lists.proofs.Sized.{sized}
 use Rattle.lists.proofs.Table.{part-in, part-is}
-use Rattle.store.specs.Fresh.{made}
-use Rattle.store.specs.Turns.{actionAt, turnsOf, Turned}
-use Rattle.store.specs.declared.Made.{Made}
-use Rattle.store.specs.declared.Store.{Store}
-use Rattle.store.proofs.Numbers.{made-number, made-store}
+use Rattle.shape.specs.Fresh.{made}
+use Rattle.shape.specs.Turns.{actionAt, turnsOf, Turned}
+use Rattle.shape.specs.declared.Made.{Made}
+use Rattle.shape.specs.declared.Store.{Store}
+use Rattle.shape.proofs.Numbers.{made-number, made-store}
 use Rattle.history.proofs.Alike.{store-alike, trace-alike, length-trace}
 use Rattle.history.proofs.Runs.{fresh-taken}
 use Rattle.history.specs.Pieces.{recordsBelow, Taken, Traced}

@@ -12,9 +12,9 @@ use Rattle.figure.proofs.Serial.{Linked, nil, one}
 use Rattle.lists.specs.Bytes.{u32Bytes, rows}
 use Rattle.lists.specs.Record.{recordBytes}
 use Rattle.lists.proofs.Rows.{rows-append}
-use Rattle.store.specs.Parts.{outOf, noOut}
-use Rattle.store.specs.View.{outView}
-use Rattle.store.specs.declared.OutQueue.{OutQueue}
+use Rattle.shape.specs.Parts.{outOf, noOut}
+use Rattle.shape.specs.View.{outView}
+use Rattle.shape.specs.declared.OutQueue.{OutQueue}
 use Rattle.history.specs.Lines.{itemRecord, lineBytes, noNumber}
 use Rattle.history.specs.Pieces.{writeRecord, queueLines, tailLines, totalLen}
 

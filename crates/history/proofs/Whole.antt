@@ -20,15 +20,15 @@ use Rattle.lists.specs.Read.{readOf, memoryOf, actionsOf}
 use Rattle.lists.specs.Record.{recordWidth, recordBytes}
 use Rattle.lists.proofs.Actions.{length-actions}
 use Rattle.lists.proofs.Sized.{Sized, sized}
-use Rattle.store.specs.Fresh.{freshOf}
-use Rattle.store.specs.Parts.{outOf, noOut}
-use Rattle.store.specs.Step.{outAt}
-use Rattle.store.specs.Turns.{actionAt, storeAfter, traceAfter}
-use Rattle.store.specs.View.{outView, eventView, stepView}
-use Rattle.store.specs.declared.OutQueue.{OutQueue}
-use Rattle.store.specs.declared.Store.{Store}
-use Rattle.store.proofs.Accepts.{out-fits}
-use Rattle.store.proofs.Kept.{sound-parts, out-sound}
+use Rattle.shape.specs.Fresh.{freshOf}
+use Rattle.shape.specs.Parts.{outOf, noOut}
+use Rattle.shape.specs.Step.{outAt}
+use Rattle.shape.specs.Turns.{actionAt, storeAfter, traceAfter}
+use Rattle.shape.specs.View.{outView, eventView, stepView}
+use Rattle.shape.specs.declared.OutQueue.{OutQueue}
+use Rattle.shape.specs.declared.Store.{Store}
+use Rattle.shape.proofs.Accepts.{out-fits}
+use Rattle.shape.proofs.Kept.{sound-parts, out-sound}
 use Rattle.history.proofs.Built as built
 use Rattle.history.proofs.Built.{Run, Ending}
 use Rattle.history.proofs.Follows.{stepsBelow}

@@ -15,10 +15,10 @@ use Rattle.lists.specs.Bytes.{rows, laid}
 use Rattle.lists.specs.Read.{readRefused, readOf, memoryOf, actionsOf}
 use Rattle.lists.specs.Record.{recordWidth, recordBytes}
 use Rattle.lists.specs.Write.{unless}
-use Rattle.store.specs.Fresh.{freshOf}
-use Rattle.store.specs.Turns.{storeAfter, traceAfter}
-use Rattle.store.specs.View.{eventView}
-use Rattle.store.specs.declared.Store.{Store}
+use Rattle.shape.specs.Fresh.{freshOf}
+use Rattle.shape.specs.Turns.{storeAfter, traceAfter}
+use Rattle.shape.specs.View.{eventView}
+use Rattle.shape.specs.declared.Store.{Store}
 use Rattle.history.specs.Lines.{lineWidth, accountBytes}
 use Rattle.history.specs.declared.Counts.{Counts}
 

@@ -2,13 +2,13 @@
 ghost use mathlib.Core.Path.{_≡_};
 ghost use lib.ListN.{length, take};
 ghost use Rattle.lists.specs.Bytes.{put};
-ghost use Rattle.store.specs.Turns.{actionAt};
+ghost use Rattle.shape.specs.Turns.{actionAt};
 ghost use Rattle.history.specs.Pieces.{Taken, Traced, Traceable, Accounted, Sortable, sortedLines, Handable, Handed, refusedCounts};
 ghost use Rattle.history.specs.Run.{Ran};
 use figure::Sizes;
 use lists::reader::Layout;
-use store::OutQueue;
-use store::Store;
+use shape::OutQueue;
+use shape::Store;
 
 mod lines;
 mod marks;

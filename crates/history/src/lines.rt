@@ -4,14 +4,14 @@ ghost use Prim.Native.Nat.{ℕ, _+_, _*_, _≤_, _<_};
 ghost use lib.ListN.{length, take, getD};
 ghost use lib.Dec.{eqb};
 ghost use Rattle.figure.specs.Refusals.{pick};
-ghost use Rattle.store.specs.Parts.{outOf, noOut};
+ghost use Rattle.shape.specs.Parts.{outOf, noOut};
 ghost use Rattle.lists.specs.Bytes.{put, rows, laid};
 ghost use Rattle.history.specs.Pieces.{wn, lineOf, placedLine, queueLines, tailLines, serialLines, Placing, totalLen};
-ghost use Rattle.store.specs.Turns.{actionAt};
+ghost use Rattle.shape.specs.Turns.{actionAt};
 use figure::Engine;
 use figure::Record;
 use figure::WriteNumber;
-use store::OutQueue;
+use shape::OutQueue;
 
 fn line_kind(kind: u8) -> u8
     ensures { λ r. ⌜ r ≡ pick (eqb kind 1) 1 2 ⌝ }

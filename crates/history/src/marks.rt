@@ -3,7 +3,7 @@ ghost use mathlib.Core.Path.{_≡_};
 ghost use Prim.Native.Nat.{_*_, _≤_};
 ghost use lib.ListN.{length, take};
 ghost use Rattle.history.specs.Pieces.{wn, noFloors, isEngine, isRead, isTaking, moved, slotOf, countBelow, lowestFloor, Small, Tallied};
-ghost use Rattle.store.specs.Turns.{actionAt};
+ghost use Rattle.shape.specs.Turns.{actionAt};
 use figure::Engine;
 use figure::Record;
 use figure::WriteNumber;

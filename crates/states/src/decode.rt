@@ -3,12 +3,12 @@ use crate::layout;
 use figure::Address;
 use figure::Engine;
 use figure::Sizes;
-use store::Cache;
-use store::InEntry;
-use store::InQueue;
-use store::OutEntry;
-use store::OutQueue;
-use store::Store;
+use shape::Cache;
+use shape::InEntry;
+use shape::InQueue;
+use shape::OutEntry;
+use shape::OutQueue;
+use shape::Store;
 ghost use Prim.Native.Nat.{_≤_};
 
 fn byte_at(b: &[u8], at: usize) -> u8 {

@@ -1,9 +1,9 @@
 // The bytes of a state, in the order in which `decode` reads them. What does not fit is not written.
 use crate::layout;
-use store::Cache;
-use store::InQueue;
-use store::OutQueue;
-use store::Store;
+use shape::Cache;
+use shape::InQueue;
+use shape::OutQueue;
+use shape::Store;
 ghost use Prim.Native.Nat.{_≤_};
 
 fn put_byte(out: &mut [u8], at: usize, x: u8) {

@@ -15,25 +15,25 @@ use Rattle.figure.specs.declared.Sizes.{Sizes}
 use Rattle.figure.specs.Figure.{Step}
 use Rattle.figure.proofs.First.{first-append, first-front}
 use Rattle.figure.proofs.Laws.{and-left, and-right}
-use Rattle.store.specs.Parts.{outOf, inOf, full, firsts, outJoined, outLeft, inJoined, inLeft, cached, dropped, cachedValue, noOut, noIn, noCache, noOutEntry, noInEntry}
+use Rattle.shape.specs.Parts.{outOf, inOf, full, firsts, outJoined, outLeft, inJoined, inLeft, cached, dropped, cachedValue, noOut, noIn, noCache, noOutEntry, noInEntry}
 use Rattle.store.specs.Pieces.{saying, unless, readRefused, readTurn, writeTurn, someFull, publishTurn, publishRefused, refreshTurn, updateTurn, toldEntry}
-use Rattle.store.specs.Sound.{soundOf, soundIn, soundInEntry}
-use Rattle.store.specs.Step.{outAt, inAt, cacheAt, oldestOut, memoryAt, formRefused, turnRefused, stepRefused, answered, stepped, answerOf, withOuts, withIns, withCaches, outEntry, inEntry, filled}
-use Rattle.store.specs.declared.Answer.{Answer}
-use Rattle.store.specs.declared.Cache.{Cache}
-use Rattle.store.specs.declared.InEntry.{InEntry}
-use Rattle.store.specs.declared.InQueue.{InQueue}
-use Rattle.store.specs.declared.OutEntry.{OutEntry}
-use Rattle.store.specs.declared.OutQueue.{OutQueue}
-use Rattle.store.specs.declared.Stepped.{Stepped}
-use Rattle.store.specs.declared.Store.{Store}
+use Rattle.shape.specs.Sound.{soundOf, soundIn, soundInEntry}
+use Rattle.shape.specs.Step.{outAt, inAt, cacheAt, oldestOut, memoryAt, formRefused, turnRefused, stepRefused, answered, stepped, answerOf, withOuts, withIns, withCaches, outEntry, inEntry, filled}
+use Rattle.shape.specs.declared.Answer.{Answer}
+use Rattle.shape.specs.declared.Cache.{Cache}
+use Rattle.shape.specs.declared.InEntry.{InEntry}
+use Rattle.shape.specs.declared.InQueue.{InQueue}
+use Rattle.shape.specs.declared.OutEntry.{OutEntry}
+use Rattle.shape.specs.declared.OutQueue.{OutQueue}
+use Rattle.shape.specs.declared.Stepped.{Stepped}
+use Rattle.shape.specs.declared.Store.{Store}
 use Rattle.store.specs.declared.turn.CacheTurn.{CacheTurn}
 use Rattle.store.specs.declared.turn.InTurn.{InTurn}
 use Rattle.store.specs.declared.turn.OutTurn.{OutTurn}
-use Rattle.store.proofs.Kept.{Ranged, Sound, sound-parts, ranged, out-sound, in-sound, oldest-sound}
+use Rattle.shape.proofs.Kept.{Ranged, Sound, sound-parts, ranged, out-sound, in-sound, oldest-sound}
 use Rattle.store.proofs.Laws.{change-set}
-use Rattle.store.proofs.Places.{and-both, all-getD, any-getD}
-use Rattle.store.proofs.Taken.{action, Asks, asks-R, asks-W, asks-MW, asks-MR, asks-CU, asks-CI, asked, form-numbered}
+use Rattle.shape.proofs.Places.{and-both, all-getD, any-getD}
+use Rattle.shape.proofs.Taken.{action, Asks, asks-R, asks-W, asks-MW, asks-MR, asks-CU, asks-CI, asked, form-numbered}
 
 -- ---- what the pieces ask for
 

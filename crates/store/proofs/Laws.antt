@@ -7,8 +7,8 @@ use native.Mathlib.Nat.{add-comm, not-suc-le-zero}
 use native.Mathlib.Omega.{arith}
 use lib.ListN.{length, take, drop, set, getD, length-append, length-take, length-drop, length-map}
 use lib.Seq.{set-split, length-take-le, drop-cons, take-suc, set-at, getD-drop, getD-at, getD-append-add}
-use Rattle.store.specs.Parts.{over, change, firsts}
-use Rattle.store.proofs.Places.{map-end}
+use Rattle.shape.specs.Parts.{over, change, firsts}
+use Rattle.shape.proofs.Places.{map-end}
 
 module _ {A : Type 0} where
   -- one more at the end

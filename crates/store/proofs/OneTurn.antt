@@ -11,12 +11,12 @@ use Rattle.lists.specs.Bytes.{put, laid, rows}
 use Rattle.lists.specs.Record.{recordAt, recordBytes}
 use Rattle.lists.proofs.Numbers.{record-back}
 use Rattle.lists.proofs.Put.{put-front, length-put}
-use Rattle.store.specs.Step.{eventOf, stepped}
-use Rattle.store.specs.Trace.{traced}
-use Rattle.store.specs.Turns.{actionAt, storeAfter, traceAfter, bytesOf, turnsOf, Turned}
-use Rattle.store.specs.declared.Stepped.{Stepped}
-use Rattle.store.specs.declared.Store.{Store}
-use Rattle.store.proofs.Taken.{Goes, goes-R, goes-W, goes-MW, goes-MR, goes-CU, goes-CI, Answers, takes, keeps, answers}
+use Rattle.shape.specs.Step.{eventOf, stepped}
+use Rattle.shape.specs.Trace.{traced}
+use Rattle.shape.specs.Turns.{actionAt, storeAfter, traceAfter, bytesOf, turnsOf, Turned}
+use Rattle.shape.specs.declared.Stepped.{Stepped}
+use Rattle.shape.specs.declared.Store.{Store}
+use Rattle.shape.proofs.Taken.{Goes, goes-R, goes-W, goes-MW, goes-MR, goes-CU, goes-CI, Answers, takes, keeps, answers}
 
 abbrev zeros8 : List ℕ
 zeros8 = replicate 8 0

@@ -4,8 +4,8 @@ use Prim.Native.Nat.{ℕ, zero, suc}
 use Rattle.figure.specs.Record.{noRecord}
 use Rattle.figure.specs.declared.Record.{Record}
 use Rattle.store.specs.Pieces.{saying, unless}
-use Rattle.store.specs.Trace.{tracedAs, refusalRecord}
-use Rattle.store.specs.declared.Answer.{Answer}
+use Rattle.shape.specs.Trace.{tracedAs, refusalRecord}
+use Rattle.shape.specs.declared.Answer.{Answer}
 
 pub saying-none : (n : ℕ) → _≡_ {A = Answer} (record { number = n; event = noRecord }) (saying n noRecord)
 saying-none zero = refl

@@ -7,8 +7,8 @@ use native.Mathlib.Nat.{not-suc-le-zero, le-of-suc-le-suc}
 use native.Mathlib.Numerals.{add-one}
 use lib.ListN.{length, take, getD}
 use lib.Seq.{take-suc}
-use Rattle.store.specs.Parts.{any, all}
-use Rattle.store.proofs.Places.{all-end, any-end}
+use Rattle.shape.specs.Parts.{any, all}
+use Rattle.shape.proofs.Places.{all-end, any-end}
 
 or-true : (a b : Bool) → b ≡ true → (a || b) ≡ true
 or-true true b h = refl

@@ -12,15 +12,15 @@ use Rattle.lists.specs.Bytes.{laid, put, rows}
 use Rattle.lists.specs.Record.{recordBytes}
 use Rattle.lists.proofs.Put.{laid-put, laid-none, length-laid}
 use Rattle.lists.proofs.Rows.{rows-append, length-rows}
-use Rattle.store.specs.Sound.{soundOf}
-use Rattle.store.specs.Step.{stepped, stepRefused}
-use Rattle.store.specs.Trace.{traced, tracedAs, refusalRecord}
-use Rattle.store.specs.Turns.{actionAt, storeAfter, traceAfter, bytesOf, turnsOf, Turned}
-use Rattle.store.specs.declared.Answer.{Answer}
-use Rattle.store.specs.declared.Stepped.{Stepped}
-use Rattle.store.specs.declared.Store.{Store}
+use Rattle.shape.specs.Sound.{soundOf}
+use Rattle.shape.specs.Step.{stepped, stepRefused}
+use Rattle.shape.specs.Trace.{traced, tracedAs, refusalRecord}
+use Rattle.shape.specs.Turns.{actionAt, storeAfter, traceAfter, bytesOf, turnsOf, Turned}
+use Rattle.shape.specs.declared.Answer.{Answer}
+use Rattle.shape.specs.declared.Stepped.{Stepped}
+use Rattle.shape.specs.declared.Store.{Store}
 use Rattle.store.proofs.Arms.{Did}
-use Rattle.store.proofs.Kept.{keeps-sound}
+use Rattle.shape.proofs.Kept.{keeps-sound}
 
 -- ---- the bytes of a trace
 

@@ -5,14 +5,14 @@ use mathlib.Core.List.{List}
 use Prim.Native.Nat.{ℕ}
 use Rattle.figure.specs.declared.Record.{Record}
 use Rattle.figure.specs.declared.Sizes.{Sizes}
-use Rattle.store.specs.Fresh.{made}
-use Rattle.store.specs.Sound.{soundOf}
-use Rattle.store.specs.Step.{stepped, answerOf}
-use Rattle.store.specs.Turns.{Turned}
-use Rattle.store.specs.declared.Answer.{Answer}
-use Rattle.store.specs.declared.Made.{Made}
-use Rattle.store.specs.declared.Stepped.{Stepped}
-use Rattle.store.specs.declared.Store.{Store}
+use Rattle.shape.specs.Fresh.{made}
+use Rattle.shape.specs.Sound.{soundOf}
+use Rattle.shape.specs.Step.{stepped, answerOf}
+use Rattle.shape.specs.Turns.{Turned}
+use Rattle.shape.specs.declared.Answer.{Answer}
+use Rattle.shape.specs.declared.Made.{Made}
+use Rattle.shape.specs.declared.Stepped.{Stepped}
+use Rattle.shape.specs.declared.Store.{Store}
 
 pub fresh-one : (z : Sizes) (table : List ℕ) {r r′ : Made} → r ≡ made z table → r′ ≡ made z table → r ≡ r′
 fresh-one z table h h′ = h ∙ sym h′

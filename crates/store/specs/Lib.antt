@@ -1,9 +1,2 @@
--- what a reader must believe of the store, in the order of document 01
-pub mod Parts
-pub mod Fresh
-pub mod Sound
-pub mod Step
-pub mod Trace
-pub mod Turns
-pub mod View
+-- what the inner functions answer: contracts inside the crate cite it, no promise does
 pub mod Pieces

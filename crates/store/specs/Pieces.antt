@@ -8,14 +8,14 @@ use Rattle.figure.specs.Record.{noRecord}
 use Rattle.figure.specs.Refusals.{Refusal, _when_, firstOf}
 use Rattle.figure.specs.declared.Record.{Record}
 use Rattle.figure.specs.declared.Sizes.{Sizes}
-use Rattle.store.specs.Parts.{any, outOf, outJoined, outLeft, inOf, inJoined, inLeft, full, ownWaits, inCache, cachedValue, cached, noOutEntry, noInEntry}
-use Rattle.store.specs.Step.{outEntry, inEntry, filled}
-use Rattle.store.specs.declared.Answer.{Answer}
-use Rattle.store.specs.declared.Cache.{Cache}
-use Rattle.store.specs.declared.InEntry.{InEntry}
-use Rattle.store.specs.declared.InQueue.{InQueue}
+use Rattle.shape.specs.Parts.{any, outOf, outJoined, outLeft, inOf, inJoined, inLeft, full, ownWaits, inCache, cachedValue, cached, noOutEntry, noInEntry}
+use Rattle.shape.specs.Step.{outEntry, inEntry, filled}
+use Rattle.shape.specs.declared.Answer.{Answer}
+use Rattle.shape.specs.declared.Cache.{Cache}
+use Rattle.shape.specs.declared.InEntry.{InEntry}
+use Rattle.shape.specs.declared.InQueue.{InQueue}
 use Rattle.store.specs.declared.turn.InTurn.{InTurn}
-use Rattle.store.specs.declared.OutQueue.{OutQueue}
+use Rattle.shape.specs.declared.OutQueue.{OutQueue}
 use Rattle.store.specs.declared.turn.OutTurn.{OutTurn}
 use Rattle.store.specs.declared.turn.CacheTurn.{CacheTurn}
 

@@ -4,11 +4,11 @@ ghost use mathlib.Core.Bool.{true};
 ghost use Prim.Native.Nat.{_≤_, min};
 ghost use lib.ListN.{length, replicate};
 ghost use Rattle.lists.specs.Bytes.{laid};
-ghost use Rattle.store.specs.Fresh.{freshOf, zeros, made};
-ghost use Rattle.store.specs.Sound.{soundOf};
-ghost use Rattle.store.specs.Step.{stepped, answerOf};
-ghost use Rattle.store.specs.Turns.{bytesOf, turnsOf, Turned};
-ghost use Rattle.store.specs.Trace.{refusalRecord};
+ghost use Rattle.shape.specs.Fresh.{freshOf, zeros, made};
+ghost use Rattle.shape.specs.Sound.{soundOf};
+ghost use Rattle.shape.specs.Step.{stepped, answerOf};
+ghost use Rattle.shape.specs.Turns.{bytesOf, turnsOf, Turned};
+ghost use Rattle.shape.specs.Trace.{refusalRecord};
 
 mod parts;
 mod turn;
@@ -18,62 +18,15 @@ use figure::Engine;
 use figure::Record;
 use figure::Sizes;
 use lists::bytes::RECORD;
-
-// An update on its way to a cache; origin 0: from memory.
-pub struct InEntry {
-    pub origin: Engine,
-    pub address: Address,
-    pub data: u32,
-}
-
-// A write on its way to memory.
-pub struct OutEntry {
-    pub address: Address,
-    pub data: u32,
-}
-
-pub struct Cache {
-    pub present: [bool; 64],
-    pub data: [u32; 64],
-}
-
-// The oldest entry stands at place 0.
-pub struct OutQueue {
-    pub len: u8,
-    pub entries: [OutEntry; 32],
-}
-
-pub struct InQueue {
-    pub len: u8,
-    pub entries: [InEntry; 32],
-}
-
-// Engine i's parts stand at place i - 1.
-pub struct Store {
-    pub sizes: Sizes,
-    pub memory: [u32; 64],
-    pub caches: [Cache; 8],
-    pub outs: [OutQueue; 8],
-    pub ins: [InQueue; 8],
-}
-
-// A fresh store, or the number of its refusal and zeros.
-pub struct Made {
-    pub number: u8,
-    pub store: Store,
-}
-
-// What a step answers, with the store after it, and without.
-pub struct Stepped {
-    pub number: u8,
-    pub store: Store,
-    pub event: Record,
-}
-
-pub struct Answer {
-    pub number: u8,
-    pub event: Record,
-}
+use shape::Answer;
+use shape::Cache;
+use shape::InEntry;
+use shape::InQueue;
+use shape::Made;
+use shape::OutEntry;
+use shape::OutQueue;
+use shape::Stepped;
+use shape::Store;
 
 // A fresh store: 4, 5, 6 or 10 and zeros, or 0 and the given memory with empty caches and queues.
 pub fn fresh(z: Sizes, table: &[u32]) -> Made

@@ -3,17 +3,17 @@ ghost use mathlib.Core.Path.{_≡_};
 ghost use mathlib.Core.Bool.{true};
 ghost use Prim.Native.Nat.{ℕ, _≤_, _<_};
 ghost use lib.ListN.{take, getD};
-ghost use Rattle.store.specs.Parts.{any, all, firsts, outJoined, outLeft, inJoined, inLeft, ownWaits, cached, dropped, full, noIn};
-ghost use Rattle.store.specs.Sound.{soundOut, soundIn};
-ghost use Rattle.store.specs.declared.InQueue.{InQueue};
-use super::Cache;
-use super::InEntry;
-use super::InQueue;
-use super::OutEntry;
-use super::OutQueue;
+ghost use Rattle.shape.specs.Parts.{any, all, firsts, outJoined, outLeft, inJoined, inLeft, ownWaits, cached, dropped, full, noIn};
+ghost use Rattle.shape.specs.Sound.{soundOut, soundIn};
+ghost use Rattle.shape.specs.declared.InQueue.{InQueue};
 use figure::Address;
 use figure::Engine;
 use figure::Sizes;
+use shape::Cache;
+use shape::InEntry;
+use shape::InQueue;
+use shape::OutEntry;
+use shape::OutQueue;
 
 pub(crate) fn out_join(q: OutQueue, x: OutEntry) -> OutQueue
     requires { ⌜ q .len < 32 ⌝ }

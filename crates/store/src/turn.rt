@@ -6,21 +6,21 @@ ghost use lib.Dec.{eqb, leb};
 ghost use lib.ListN.{getD};
 ghost use Rattle.figure.specs.Record.{noRecord};
 ghost use Rattle.figure.specs.Refusals.{firstOf};
-ghost use Rattle.store.specs.Parts.{noInEntry};
-ghost use Rattle.store.specs.Step.{formRefused, usesAddress, usesData, fieldsRight, filled};
+ghost use Rattle.shape.specs.Parts.{noInEntry};
+ghost use Rattle.shape.specs.Step.{formRefused, usesAddress, usesData, fieldsRight, filled};
 ghost use Rattle.store.specs.Pieces.{saying, unless, readTurn, writeTurn, publishTurn, refreshTurn, updateTurn, toldEntry};
-ghost use Rattle.store.specs.Trace.{tracedAs};
-use super::Answer;
-use super::Cache;
-use super::InEntry;
-use super::InQueue;
-use super::OutEntry;
-use super::OutQueue;
+ghost use Rattle.shape.specs.Trace.{tracedAs};
 use super::parts;
 use figure::Address;
 use figure::Engine;
 use figure::Record;
 use figure::Sizes;
+use shape::Answer;
+use shape::Cache;
+use shape::InEntry;
+use shape::InQueue;
+use shape::OutEntry;
+use shape::OutQueue;
 
 // An answer, with the out queue after it.
 pub(crate) struct OutTurn {

@@ -1,7 +1,7 @@
 use mathlib.Core.Path.{refl}
 use denote.Ref.{now}
 use borrow.Author.Needs.{needs}
-use Rattle.store.specs.Turns.{actionAt}
+use Rattle.shape.specs.Turns.{actionAt}
 use Rattle.history.proofs.Composing.{front-long, same-front, placing, sorted-put}
 use Rattle.history.proofs.put_sorted.Statement.{statement}
 use Rattle.history.proofs.put_sorted.Tie as tie

@@ -6,9 +6,9 @@ use mathlib.Core.List.{List}
 use lib.ListN.{length, take, replicate}
 use lib.Seq.{take-length}
 use Rattle.figure.specs.declared.Sizes.{Sizes}
-use Rattle.store.specs.declared.Store.{Store}
-use Rattle.store.specs.Parts.{over}
-use Rattle.store.specs.Fresh.{freshOf, emptyCache, emptyOut, emptyIn}
+use Rattle.shape.specs.declared.Store.{Store}
+use Rattle.shape.specs.Parts.{over}
+use Rattle.shape.specs.Fresh.{freshOf, emptyCache, emptyOut, emptyIn}
 use Rattle.store.proofs.Laws.{over-more}
 use borrow.Author.Needs.{needs}
 use Rattle.store.proofs.filled_store.Statement.{statement}

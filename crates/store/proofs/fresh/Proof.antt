@@ -7,9 +7,9 @@ use lib.ListN.{length}
 use Rattle.figure.specs.Refusals.{sizesRefused, firstOf}
 use Rattle.figure.specs.declared.Sizes.{Sizes}
 use Rattle.figure.proofs.First.{first-front, first-append, same-not, other-not}
-use Rattle.store.specs.declared.Made.{Made}
-use Rattle.store.specs.Fresh.{freshOf, zeros, freshRefused, made, madeAs}
-use Rattle.store.proofs.Kept.{Ranged, sizes-ranged, sizes-numbered}
+use Rattle.shape.specs.declared.Made.{Made}
+use Rattle.shape.specs.Fresh.{freshOf, zeros, freshRefused, made, madeAs}
+use Rattle.shape.proofs.Kept.{Ranged, sizes-ranged, sizes-numbered}
 use borrow.Author.Needs.{needs}
 use Rattle.store.proofs.fresh.Statement.{statement}
 use Rattle.store.proofs.fresh.Tie as tie

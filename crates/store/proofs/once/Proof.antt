@@ -37,19 +37,19 @@ use denote.Triple.Table.{entered, cited}
 use denote.Triple.Walked.{says, Stays, stay-none, walkOf, goes-none, Walks, ends-at, walked, walk-meets}
 use denote.Exit.{yes}
 use borrow.Table.OneValue.{part-in-at, part-out-at}
-use Rattle.store.specs.Step.{stepped, answerOf}
-use Rattle.store.specs.declared.Store.{Store}
+use Rattle.shape.specs.Step.{stepped, answerOf}
+use Rattle.shape.specs.declared.Store.{Store}
 use Rattle.figure.specs.declared.Record.{Record}
-use Rattle.store.specs.declared.Stepped.{Stepped}
-use Rattle.store.specs.declared.Answer.{Answer}
-use Rattle.store.proofs.Store as T
-use Rattle.store.proofs.Store.Laws as T′
+use Rattle.shape.specs.declared.Stepped.{Stepped}
+use Rattle.shape.specs.declared.Answer.{Answer}
+use Rattle.shape.proofs.Store as T
+use Rattle.shape.proofs.Store.Laws as T′
 use Rattle.figure.proofs.Record as R
 use Rattle.figure.proofs.Record.Laws as R′
-use Rattle.store.proofs.Stepped as S
-use Rattle.store.proofs.Stepped.Laws as S′
-use Rattle.store.proofs.Answer as N
-use Rattle.store.proofs.Answer.Laws as N′
+use Rattle.shape.proofs.Stepped as S
+use Rattle.shape.proofs.Stepped.Laws as S′
+use Rattle.shape.proofs.Answer as N
+use Rattle.shape.proofs.Answer.Laws as N′
 use Rattle.store.proofs.step_in_place as g
 use Rattle.store.proofs.step_in_place.Symbol as g-def
 use Rattle.store.proofs.step_in_place.Symbol.{name as #store·step-in-place}

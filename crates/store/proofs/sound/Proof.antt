@@ -1,8 +1,8 @@
 -- `store::sound` meets its contract. Assumes nothing.
 use mathlib.Core.Path.{sym, _∙_}
 use borrow.Author.Tests.{eq-eqb, ne-eqb, not-true, not-false}
-use Rattle.store.proofs.Kept.{Ranged, sizes-ranged}
-use Rattle.store.specs.Sound.{soundOf}
+use Rattle.shape.proofs.Kept.{Ranged, sizes-ranged}
+use Rattle.shape.specs.Sound.{soundOf}
 use borrow.Author.Needs.{needs}
 use Rattle.store.proofs.sound.Statement.{statement}
 use Rattle.store.proofs.sound.Tie as tie

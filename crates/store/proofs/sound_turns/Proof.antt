@@ -6,9 +6,9 @@ use mathlib.Core.Logic.{inl, inr}
 use native.Mathlib.Nat.{mul-le-mul-right, le-of-lt}
 use Rattle.figure.specs.Refusals.{firstOf}
 use Rattle.figure.specs.declared.Record.{Record}
-use Rattle.store.specs.Sound.{soundOf}
-use Rattle.store.specs.Step.{formRefused, stepped}
-use Rattle.store.specs.declared.Store.{Store}
+use Rattle.shape.specs.Sound.{soundOf}
+use Rattle.shape.specs.Step.{formRefused, stepped}
+use Rattle.shape.specs.declared.Store.{Store}
 use mathlib.Core.Bool.{true}
 use lib.Dec.{leb}
 use borrow.Author.Tests.{leb-true}

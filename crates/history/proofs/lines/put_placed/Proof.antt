@@ -5,7 +5,7 @@ use mathlib.Core.Path.{refl, _∙_}
 use lib.ListN.{getD}
 use denote.Ref.{now}
 use Rattle.figure.specs.Refusals.{mostActions}
-use Rattle.store.specs.Turns.{actionAt}
+use Rattle.shape.specs.Turns.{actionAt}
 use Rattle.history.specs.Lines.{lineWidth}
 use Rattle.history.specs.Pieces.{placedLine}
 use Rattle.history.proofs.Firsts.{Firsts, firsts-none, firsts-long, firsts-room, firsts-more, firsts-all}

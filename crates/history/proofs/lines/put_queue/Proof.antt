@@ -6,8 +6,8 @@ use mathlib.Core.List.{List, map}
 use lib.ListN.{length, length-map}
 use lib.Seq.{length-take-le}
 use Rattle.figure.specs.Refusals.{mostDepth}
-use Rattle.store.specs.declared.OutEntry.{OutEntry}
-use Rattle.store.specs.Parts.{outOf, noOutEntry}
+use Rattle.shape.specs.declared.OutEntry.{OutEntry}
+use Rattle.shape.specs.Parts.{outOf, noOutEntry}
 use Rattle.history.specs.Lines.{lineWidth, noNumber}
 use Rattle.history.specs.Pieces.{lineOf, writeRecord}
 use Rattle.history.proofs.Firsts.{Firsts, firsts-none, firsts-long, firsts-room, firsts-more, firsts-all}

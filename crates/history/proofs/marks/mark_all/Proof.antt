@@ -6,7 +6,7 @@ use borrow.Author.Needs.{needs}
 use borrow.Author.Tests.{eq-eqb, ne-eqb}
 use Rattle.figure.specs.Refusals.{pick, mostActions}
 use Rattle.history.specs.Run.{isRefused}
-use Rattle.store.specs.Turns.{actionAt}
+use Rattle.shape.specs.Turns.{actionAt}
 use Rattle.history.proofs.Marking.{Marking, marking-none, marking-small, marking-fits, marking-more, marking-all, accepted-le}
 use Rattle.history.proofs.marks.mark_all.Statement.{statement}
 use Rattle.history.proofs.marks.mark_all.Tie as tie

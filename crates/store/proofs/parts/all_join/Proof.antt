@@ -3,7 +3,7 @@ use mathlib.Core.Path.{_≡_}
 use native.Mathlib.Omega.{arith}
 use Prim.Native.Nat.{_-_, _≤_}
 use lib.ListN.{length}
-use Rattle.store.specs.Parts.{firsts, inJoined, noIn}
+use Rattle.shape.specs.Parts.{firsts, inJoined, noIn}
 use Rattle.store.proofs.Laws.{long, firsts-at, firsts-more}
 use borrow.Author.Needs.{needs}
 use Rattle.store.proofs.parts.all_join.Statement.{statement}

@@ -5,7 +5,7 @@ use Prim.Native.Nat.{_-_, _≤_}
 use lib.ListN.{length, take}
 use mathlib.Core.Bool.{false}
 use borrow.Author.Tests.{eq-eqb, ne-eqb}
-use Rattle.store.specs.Parts.{any, isFrom}
+use Rattle.shape.specs.Parts.{any, isFrom}
 use Rattle.store.proofs.Laws.{long}
 use Rattle.store.proofs.Tests.{any-more, any-hit}
 use borrow.Author.Needs.{needs}

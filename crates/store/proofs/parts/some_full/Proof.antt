@@ -5,8 +5,8 @@ use Prim.Native.Nat.{_-_, _≤_}
 use lib.ListN.{length, take}
 use mathlib.Core.Bool.{false}
 use borrow.Author.Tests.{le-leb, lt-leb}
-use Rattle.store.specs.declared.InQueue.{InQueue}
-use Rattle.store.specs.Parts.{any, full}
+use Rattle.shape.specs.declared.InQueue.{InQueue}
+use Rattle.shape.specs.Parts.{any, full}
 use Rattle.store.proofs.Laws.{long}
 use Rattle.store.proofs.Tests.{any-more, any-hit}
 use borrow.Author.Needs.{needs}

@@ -5,8 +5,8 @@ use Prim.Native.Nat.{_-_, _≤_}
 use lib.ListN.{length, take}
 use mathlib.Core.Bool.{true}
 use borrow.Author.Tests.{not-true, not-false}
-use Rattle.store.specs.Parts.{all, noIn}
-use Rattle.store.specs.Sound.{soundIn}
+use Rattle.shape.specs.Parts.{all, noIn}
+use Rattle.shape.specs.Sound.{soundIn}
 use Rattle.store.proofs.Laws.{long}
 use Rattle.store.proofs.Tests.{all-more, all-miss}
 use borrow.Author.Needs.{needs}

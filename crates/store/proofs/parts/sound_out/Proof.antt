@@ -6,8 +6,8 @@ use lib.ListN.{length, take}
 use mathlib.Core.Bool.{true}
 use borrow.Author.Tests.{lt-ltb, le-ltb, le-leb, lt-leb}
 use lib.Dec.{leb}
-use Rattle.store.specs.Parts.{all, noOutEntry}
-use Rattle.store.specs.Sound.{soundOutEntry}
+use Rattle.shape.specs.Parts.{all, noOutEntry}
+use Rattle.shape.specs.Sound.{soundOutEntry}
 use Rattle.store.proofs.Laws.{long}
 use Rattle.store.proofs.Tests.{and-false, all-more, all-miss}
 use borrow.Author.Needs.{needs}

@@ -5,8 +5,8 @@ use Prim.Native.Nat.{_-_, _≤_}
 use lib.ListN.{length, take}
 use mathlib.Core.Bool.{true}
 use borrow.Author.Tests.{not-true, not-false}
-use Rattle.store.specs.Parts.{all, noOut}
-use Rattle.store.specs.Sound.{soundOut}
+use Rattle.shape.specs.Parts.{all, noOut}
+use Rattle.shape.specs.Sound.{soundOut}
 use Rattle.store.proofs.Laws.{long}
 use Rattle.store.proofs.Tests.{all-more, all-miss}
 use borrow.Author.Needs.{needs}

@@ -1,5 +1,5 @@
 -- `store::turn::judge_form` meets its contract. Assumes nothing.
-use Rattle.store.specs.Step.{formRefused}
+use Rattle.shape.specs.Step.{formRefused}
 use borrow.Author.Needs.{needs}
 use Rattle.store.proofs.turn.judge_form.Statement.{statement}
 use Rattle.store.proofs.turn.judge_form.Tie as tie

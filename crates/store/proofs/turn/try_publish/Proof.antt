@@ -3,7 +3,7 @@ use Prim.Native.Nat.{_<_}
 use native.Mathlib.Omega.{arith}
 use borrow.Author.Tests.{eq-eqb, ne-eqb}
 use lib.Seq.{getD-take}
-use Rattle.store.specs.Parts.{noOutEntry}
+use Rattle.shape.specs.Parts.{noOutEntry}
 use borrow.Author.Needs.{needs}
 use Rattle.store.proofs.turn.try_publish.Statement.{statement}
 use Rattle.store.proofs.turn.try_publish.Tie as tie

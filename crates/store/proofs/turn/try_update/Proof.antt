@@ -3,7 +3,7 @@ use Prim.Native.Nat.{_<_}
 use native.Mathlib.Omega.{arith}
 use borrow.Author.Tests.{eq-eqb, ne-eqb}
 use lib.Seq.{getD-take}
-use Rattle.store.specs.Parts.{noInEntry}
+use Rattle.shape.specs.Parts.{noInEntry}
 use borrow.Author.Needs.{needs}
 use Rattle.store.proofs.turn.try_update.Statement.{statement}
 use Rattle.store.proofs.turn.try_update.Tie as tie

@@ -14,13 +14,13 @@ use Rattle.figure.specs.declared.Record.{Record}
 use Rattle.figure.specs.declared.Sizes.{Sizes}
 use Rattle.figure.proofs.First.{NoneApplies, Numbered, none-first}
 use Rattle.figure.proofs.Laws.{and-left, and-right}
-use Rattle.store.proofs.Places.{or-right}
-use Rattle.store.specs.Parts.{any, full, ownWaits, inCache}
-use Rattle.store.specs.Sound.{soundOf}
-use Rattle.store.specs.Step.{outAt, inAt, cacheAt, formRefused, turnRefused, stepRefused, actionOf, effect, eventOf, answered, stepped}
-use Rattle.store.specs.declared.InQueue.{InQueue}
-use Rattle.store.specs.declared.Stepped.{Stepped}
-use Rattle.store.specs.declared.Store.{Store}
+use Rattle.shape.proofs.Places.{or-right}
+use Rattle.shape.specs.Parts.{any, full, ownWaits, inCache}
+use Rattle.shape.specs.Sound.{soundOf}
+use Rattle.shape.specs.Step.{outAt, inAt, cacheAt, formRefused, turnRefused, stepRefused, actionOf, effect, eventOf, answered, stepped}
+use Rattle.shape.specs.declared.InQueue.{InQueue}
+use Rattle.shape.specs.declared.Stepped.{Stepped}
+use Rattle.shape.specs.declared.Store.{Store}
 
 -- an action with origin 0
 abbrev pub action : ℕ → ℕ → ℕ → ℕ → Record

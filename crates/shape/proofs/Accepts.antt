@@ -15,16 +15,16 @@ use Rattle.figure.specs.Refusals.{pick, firstOf}
 use Rattle.figure.specs.declared.Record.{Record}
 use Rattle.figure.specs.declared.Sizes.{Sizes}
 use Rattle.figure.proofs.Laws.{and-left}
-use Rattle.store.proofs.Kept.{Sound, ranged, out-sound, in-sound}
-use Rattle.store.proofs.Places.{and-both, any-end}
-use Rattle.store.proofs.Shaped.{Shaped}
-use Rattle.store.proofs.Taken.{Asks, asks-R, asks-W, asks-MW, asks-MR, asks-CU, asks-CI}
-use Rattle.store.specs.Parts.{any, full, isFrom, ownWaits, inCache, cachedValue, inOf, noIn}
-use Rattle.store.specs.Step.{outAt, inAt, cacheAt, turnRefused}
-use Rattle.store.specs.View.{outView, inView, engineView, view}
-use Rattle.store.specs.declared.InEntry.{InEntry}
-use Rattle.store.specs.declared.InQueue.{InQueue}
-use Rattle.store.specs.declared.Store.{Store}
+use Rattle.shape.proofs.Kept.{Sound, ranged, out-sound, in-sound}
+use Rattle.shape.proofs.Places.{and-both, any-end}
+use Rattle.shape.proofs.Shaped.{Shaped}
+use Rattle.shape.proofs.Taken.{Asks, asks-R, asks-W, asks-MW, asks-MR, asks-CU, asks-CI}
+use Rattle.shape.specs.Parts.{any, full, isFrom, ownWaits, inCache, cachedValue, inOf, noIn}
+use Rattle.shape.specs.Step.{outAt, inAt, cacheAt, turnRefused}
+use Rattle.shape.specs.View.{outView, inView, engineView, view}
+use Rattle.shape.specs.declared.InEntry.{InEntry}
+use Rattle.shape.specs.declared.InQueue.{InQueue}
+use Rattle.shape.specs.declared.Store.{Store}
 
 -- ---- the tests, as the store has them and as the figure has them
 

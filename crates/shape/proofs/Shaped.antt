@@ -12,19 +12,19 @@ use Rattle.figure.specs.Refusals.{mostEngines, mostAddresses, mostDepth}
 use Rattle.figure.specs.declared.Address.{Address}
 use Rattle.figure.specs.declared.Record.{Record}
 use Rattle.figure.specs.declared.Sizes.{Sizes}
-use Rattle.store.proofs.Kept.{Sound, sound-parts, ranged}
-use Rattle.store.proofs.Places.{any-getD, length-change, at-change, length-firsts, at-firsts, length-over, length-tail-le}
-use Rattle.store.proofs.Taken.{Goes, goes-R, goes-W, goes-MW, goes-MR, goes-CU, goes-CI, Answers, takes, keeps, answers}
-use Rattle.store.specs.Fresh.{freshOf, emptyOut, emptyIn, emptyCache}
-use Rattle.store.specs.Parts.{any, over, change, firsts, full, outJoined, outLeft, inJoined, inLeft, cached, dropped, noOut, noIn, noCache}
-use Rattle.store.specs.Step.{outAt, inAt, cacheAt, oldestOut, effect, stepped}
-use Rattle.store.specs.declared.Cache.{Cache}
-use Rattle.store.specs.declared.InEntry.{InEntry}
-use Rattle.store.specs.declared.InQueue.{InQueue}
-use Rattle.store.specs.declared.OutEntry.{OutEntry}
-use Rattle.store.specs.declared.OutQueue.{OutQueue}
-use Rattle.store.specs.declared.Stepped.{Stepped}
-use Rattle.store.specs.declared.Store.{Store}
+use Rattle.shape.proofs.Kept.{Sound, sound-parts, ranged}
+use Rattle.shape.proofs.Places.{any-getD, length-change, at-change, length-firsts, at-firsts, length-over, length-tail-le}
+use Rattle.shape.proofs.Taken.{Goes, goes-R, goes-W, goes-MW, goes-MR, goes-CU, goes-CI, Answers, takes, keeps, answers}
+use Rattle.shape.specs.Fresh.{freshOf, emptyOut, emptyIn, emptyCache}
+use Rattle.shape.specs.Parts.{any, over, change, firsts, full, outJoined, outLeft, inJoined, inLeft, cached, dropped, noOut, noIn, noCache}
+use Rattle.shape.specs.Step.{outAt, inAt, cacheAt, oldestOut, effect, stepped}
+use Rattle.shape.specs.declared.Cache.{Cache}
+use Rattle.shape.specs.declared.InEntry.{InEntry}
+use Rattle.shape.specs.declared.InQueue.{InQueue}
+use Rattle.shape.specs.declared.OutEntry.{OutEntry}
+use Rattle.shape.specs.declared.OutQueue.{OutQueue}
+use Rattle.shape.specs.declared.Stepped.{Stepped}
+use Rattle.shape.specs.declared.Store.{Store}
 
 -- an array of n places, with P at each
 pub record Array {A : Type 0} (n : ℕ) (d : A) (P : A → Type 0) (l : List A) : Type 0 where

@@ -12,18 +12,18 @@ use Rattle.figure.specs.Figure.{Step}
 use Rattle.figure.specs.declared.Address.{Address}
 use Rattle.figure.specs.declared.Record.{Record}
 use Rattle.figure.proofs.Laws.{and-right}
-use Rattle.store.proofs.Kept.{Sound, sound-parts, oldest-sound, oldest-in-sound}
-use Rattle.store.proofs.Places.{getD-change-other, getD-firsts-above, getD-over-past}
-use Rattle.store.proofs.Taken.{Goes, goes-R, goes-W, goes-MW, goes-MR, goes-CU, goes-CI, Answers, takes, keeps, answers}
-use Rattle.store.specs.Parts.{change, firsts, outOf, outJoined, outLeft, inOf, inJoined, inLeft, cached, dropped, noOutEntry, noInEntry, noOut, noIn, noCache}
-use Rattle.store.specs.Step.{outAt, inAt, cacheAt, memoryAt, outEntry, inEntry, oldestOut, oldestIn, effect, stepped}
-use Rattle.store.specs.declared.Cache.{Cache}
-use Rattle.store.specs.declared.InEntry.{InEntry}
-use Rattle.store.specs.declared.InQueue.{InQueue}
-use Rattle.store.specs.declared.OutEntry.{OutEntry}
-use Rattle.store.specs.declared.OutQueue.{OutQueue}
-use Rattle.store.specs.declared.Stepped.{Stepped}
-use Rattle.store.specs.declared.Store.{Store}
+use Rattle.shape.proofs.Kept.{Sound, sound-parts, oldest-sound, oldest-in-sound}
+use Rattle.shape.proofs.Places.{getD-change-other, getD-firsts-above, getD-over-past}
+use Rattle.shape.proofs.Taken.{Goes, goes-R, goes-W, goes-MW, goes-MR, goes-CU, goes-CI, Answers, takes, keeps, answers}
+use Rattle.shape.specs.Parts.{change, firsts, outOf, outJoined, outLeft, inOf, inJoined, inLeft, cached, dropped, noOutEntry, noInEntry, noOut, noIn, noCache}
+use Rattle.shape.specs.Step.{outAt, inAt, cacheAt, memoryAt, outEntry, inEntry, oldestOut, oldestIn, effect, stepped}
+use Rattle.shape.specs.declared.Cache.{Cache}
+use Rattle.shape.specs.declared.InEntry.{InEntry}
+use Rattle.shape.specs.declared.InQueue.{InQueue}
+use Rattle.shape.specs.declared.OutEntry.{OutEntry}
+use Rattle.shape.specs.declared.OutQueue.{OutQueue}
+use Rattle.shape.specs.declared.Stepped.{Stepped}
+use Rattle.shape.specs.declared.Store.{Store}
 
 -- q before and p after: entries past the length after the step stand as they stood
 pub record OutPast (q p : OutQueue) : Type 0 where

@@ -15,18 +15,18 @@ use Rattle.figure.specs.declared.Record.{Record}
 use Rattle.figure.specs.declared.Sizes.{Sizes}
 use Rattle.figure.proofs.First.{NoneApplies, Numbered, none-first, first-none}
 use Rattle.figure.proofs.Laws.{and-left, and-right}
-use Rattle.store.proofs.Places.{and-both, or-left, or-right, all-end, all-tail, all-getD, all-replicate, all-change, all-map, take-change, take-firsts, length-tail-le, length-take-most, out-with, in-with}
-use Rattle.store.proofs.Taken.{Goes, goes-R, goes-W, goes-MW, goes-MR, goes-CU, goes-CI, Answers, takes, keeps, answers, none-split}
-use Rattle.store.specs.Fresh.{freshOf, zeros, freshRefused, emptyOut, emptyIn}
-use Rattle.store.specs.Parts.{all, any, change, firsts, full, outOf, withOut, outJoined, outLeft, inOf, withIn, inJoined, inLeft, noOut, noIn, noOutEntry, noInEntry}
-use Rattle.store.specs.Sound.{soundSizes, soundOutEntry, soundInEntry, soundOut, soundIn, soundOf}
-use Rattle.store.specs.Step.{outAt, inAt, oldestOut, oldestIn, outEntry, inEntry, memoryAt, actionOf, effect, stepped}
-use Rattle.store.specs.declared.InEntry.{InEntry}
-use Rattle.store.specs.declared.InQueue.{InQueue}
-use Rattle.store.specs.declared.OutEntry.{OutEntry}
-use Rattle.store.specs.declared.OutQueue.{OutQueue}
-use Rattle.store.specs.declared.Stepped.{Stepped}
-use Rattle.store.specs.declared.Store.{Store}
+use Rattle.shape.proofs.Places.{and-both, or-left, or-right, all-end, all-tail, all-getD, all-replicate, all-change, all-map, take-change, take-firsts, length-tail-le, length-take-most, out-with, in-with}
+use Rattle.shape.proofs.Taken.{Goes, goes-R, goes-W, goes-MW, goes-MR, goes-CU, goes-CI, Answers, takes, keeps, answers, none-split}
+use Rattle.shape.specs.Fresh.{freshOf, zeros, freshRefused, emptyOut, emptyIn}
+use Rattle.shape.specs.Parts.{all, any, change, firsts, full, outOf, withOut, outJoined, outLeft, inOf, withIn, inJoined, inLeft, noOut, noIn, noOutEntry, noInEntry}
+use Rattle.shape.specs.Sound.{soundSizes, soundOutEntry, soundInEntry, soundOut, soundIn, soundOf}
+use Rattle.shape.specs.Step.{outAt, inAt, oldestOut, oldestIn, outEntry, inEntry, memoryAt, actionOf, effect, stepped}
+use Rattle.shape.specs.declared.InEntry.{InEntry}
+use Rattle.shape.specs.declared.InQueue.{InQueue}
+use Rattle.shape.specs.declared.OutEntry.{OutEntry}
+use Rattle.shape.specs.declared.OutQueue.{OutQueue}
+use Rattle.shape.specs.declared.Stepped.{Stepped}
+use Rattle.shape.specs.declared.Store.{Store}
 
 -- ---- sound sizes: "Engines 1 to 8. Addresses 1 to 64. Depth of every queue 1 to 32."
 

@@ -10,11 +10,11 @@ use lib.Seq.{take-append-seam, getD-append-add, getD-drop}
 use lib.Dec.{ltb}
 use borrow.Author.Tests.{ltb-true, ltb-false}
 use Rattle.figure.proofs.Laws.{and-left, and-right, each}
-use Rattle.store.specs.Parts.{any, all, over, change, firsts, outOf, withOut, inOf, withIn}
-use Rattle.store.specs.declared.InEntry.{InEntry}
-use Rattle.store.specs.declared.InQueue.{InQueue}
-use Rattle.store.specs.declared.OutEntry.{OutEntry}
-use Rattle.store.specs.declared.OutQueue.{OutQueue}
+use Rattle.shape.specs.Parts.{any, all, over, change, firsts, outOf, withOut, inOf, withIn}
+use Rattle.shape.specs.declared.InEntry.{InEntry}
+use Rattle.shape.specs.declared.InQueue.{InQueue}
+use Rattle.shape.specs.declared.OutEntry.{OutEntry}
+use Rattle.shape.specs.declared.OutQueue.{OutQueue}
 
 -- ---- tests
 

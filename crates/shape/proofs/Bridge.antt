@@ -14,24 +14,24 @@ use Rattle.figure.specs.Refusals.{pick, firstOf, mostEngines, mostAddresses}
 use Rattle.figure.specs.declared.Record.{Record}
 use Rattle.figure.specs.declared.Sizes.{Sizes}
 use Rattle.figure.proofs.Respects.{Agrees, agrees-refl}
-use Rattle.store.proofs.Accepts.{turn-accepted}
-use Rattle.store.proofs.Kept.{sound-parts}
-use Rattle.store.proofs.Next.{next-agrees, event-agrees}
-use Rattle.store.proofs.Numbers.{form-number, turn-number}
-use Rattle.store.proofs.Places.{getD-replicate-each}
-use Rattle.store.proofs.Shaped.{Shaped}
-use Rattle.store.proofs.Taken.{asked, Answers, takes, keeps, answers}
-use Rattle.store.specs.Fresh.{freshOf, emptyCache, emptyOut, emptyIn}
-use Rattle.store.specs.Parts.{outOf, inOf, cachedValue, noOut, noIn, noCache}
-use Rattle.store.specs.Sound.{soundOf}
-use Rattle.store.specs.Step.{formRefused, actionOf, stepped}
-use Rattle.store.specs.Trace.{traced}
-use Rattle.store.specs.View.{outView, inView, cacheView, view, stepView, eventView}
-use Rattle.store.specs.declared.Cache.{Cache}
-use Rattle.store.specs.declared.InQueue.{InQueue}
-use Rattle.store.specs.declared.OutQueue.{OutQueue}
-use Rattle.store.specs.declared.Stepped.{Stepped}
-use Rattle.store.specs.declared.Store.{Store}
+use Rattle.shape.proofs.Accepts.{turn-accepted}
+use Rattle.shape.proofs.Kept.{sound-parts}
+use Rattle.shape.proofs.Next.{next-agrees, event-agrees}
+use Rattle.shape.proofs.Numbers.{form-number, turn-number}
+use Rattle.shape.proofs.Places.{getD-replicate-each}
+use Rattle.shape.proofs.Shaped.{Shaped}
+use Rattle.shape.proofs.Taken.{asked, Answers, takes, keeps, answers}
+use Rattle.shape.specs.Fresh.{freshOf, emptyCache, emptyOut, emptyIn}
+use Rattle.shape.specs.Parts.{outOf, inOf, cachedValue, noOut, noIn, noCache}
+use Rattle.shape.specs.Sound.{soundOf}
+use Rattle.shape.specs.Step.{formRefused, actionOf, stepped}
+use Rattle.shape.specs.Trace.{traced}
+use Rattle.shape.specs.View.{outView, inView, cacheView, view, stepView, eventView}
+use Rattle.shape.specs.declared.Cache.{Cache}
+use Rattle.shape.specs.declared.InQueue.{InQueue}
+use Rattle.shape.specs.declared.OutQueue.{OutQueue}
+use Rattle.shape.specs.declared.Stepped.{Stepped}
+use Rattle.shape.specs.declared.Store.{Store}
 
 -- ---- the step that a record stands for
 

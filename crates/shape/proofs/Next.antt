@@ -17,20 +17,20 @@ use Rattle.figure.specs.declared.Record.{Record}
 use Rattle.figure.specs.declared.Sizes.{Sizes}
 use Rattle.figure.proofs.Laws.{and-right, upd-one}
 use Rattle.figure.proofs.Respects.{Alike, Agrees, agrees-refl}
-use Rattle.store.proofs.Accepts.{out-fits, in-fits}
-use Rattle.store.proofs.Kept.{Sound, ranged, oldest-sound, oldest-in-sound}
-use Rattle.store.proofs.Places.{getD-change-same, getD-change-other, getD-firsts-below, map-end, out-with, in-with}
-use Rattle.store.proofs.Shaped.{Shaped, CacheShaped}
-use Rattle.store.proofs.Taken.{Goes, goes-R, goes-W, goes-MW, goes-MR, goes-CU, goes-CI}
-use Rattle.store.specs.Parts.{change, outOf, outJoined, outLeft, inOf, inJoined, inLeft, cached, dropped, cachedValue, noOutEntry, noInEntry, noOut, noIn, noCache}
-use Rattle.store.specs.Step.{outAt, inAt, cacheAt, memoryAt, outEntry, inEntry, oldestOut, oldestIn, effect, eventOf}
-use Rattle.store.specs.View.{outView, inView, cacheView, engineView, view, eventView}
-use Rattle.store.specs.declared.Cache.{Cache}
-use Rattle.store.specs.declared.InEntry.{InEntry}
-use Rattle.store.specs.declared.InQueue.{InQueue}
-use Rattle.store.specs.declared.OutEntry.{OutEntry}
-use Rattle.store.specs.declared.OutQueue.{OutQueue}
-use Rattle.store.specs.declared.Store.{Store}
+use Rattle.shape.proofs.Accepts.{out-fits, in-fits}
+use Rattle.shape.proofs.Kept.{Sound, ranged, oldest-sound, oldest-in-sound}
+use Rattle.shape.proofs.Places.{getD-change-same, getD-change-other, getD-firsts-below, map-end, out-with, in-with}
+use Rattle.shape.proofs.Shaped.{Shaped, CacheShaped}
+use Rattle.shape.proofs.Taken.{Goes, goes-R, goes-W, goes-MW, goes-MR, goes-CU, goes-CI}
+use Rattle.shape.specs.Parts.{change, outOf, outJoined, outLeft, inOf, inJoined, inLeft, cached, dropped, cachedValue, noOutEntry, noInEntry, noOut, noIn, noCache}
+use Rattle.shape.specs.Step.{outAt, inAt, cacheAt, memoryAt, outEntry, inEntry, oldestOut, oldestIn, effect, eventOf}
+use Rattle.shape.specs.View.{outView, inView, cacheView, engineView, view, eventView}
+use Rattle.shape.specs.declared.Cache.{Cache}
+use Rattle.shape.specs.declared.InEntry.{InEntry}
+use Rattle.shape.specs.declared.InQueue.{InQueue}
+use Rattle.shape.specs.declared.OutEntry.{OutEntry}
+use Rattle.shape.specs.declared.OutQueue.{OutQueue}
+use Rattle.shape.specs.declared.Store.{Store}
 
 -- ---- queues: what joins and what leaves, seen through the view
 

@@ -10,12 +10,12 @@ use Rattle.figure.specs.Figure.{Out, wr, In, up, Engine, State, Step, R}
 use Rattle.figure.specs.Refusals.{pick, firstOf}
 use Rattle.figure.specs.declared.Record.{Record}
 use Rattle.figure.specs.declared.Sizes.{Sizes}
-use Rattle.store.specs.Parts.{outOf, inOf, inCache, cachedValue}
-use Rattle.store.specs.Step.{outAt, inAt, cacheAt, memoryAt, formRefused, actionOf}
-use Rattle.store.specs.declared.Cache.{Cache}
-use Rattle.store.specs.declared.InEntry.{InEntry}
-use Rattle.store.specs.declared.OutEntry.{OutEntry}
-use Rattle.store.specs.declared.Store.{Store}
+use Rattle.shape.specs.Parts.{outOf, inOf, inCache, cachedValue}
+use Rattle.shape.specs.Step.{outAt, inAt, cacheAt, memoryAt, formRefused, actionOf}
+use Rattle.shape.specs.declared.Cache.{Cache}
+use Rattle.shape.specs.declared.InEntry.{InEntry}
+use Rattle.shape.specs.declared.OutEntry.{OutEntry}
+use Rattle.shape.specs.declared.Store.{Store}
 
 abbrev pub outView : OutEntry → Out
 outView x = wr (x .address .0) (x .«data»)

@@ -6,12 +6,12 @@ use lib.Dec.{eqb}
 use lib.ListN.{length, replicate}
 use Rattle.figure.specs.Refusals.{Refusal, _when_, firstOf, sizesRefused, mostEngines, mostAddresses, mostDepth}
 use Rattle.figure.specs.declared.Sizes.{Sizes}
-use Rattle.store.specs.Parts.{over, noInEntry, noOutEntry}
-use Rattle.store.specs.declared.Cache.{Cache}
-use Rattle.store.specs.declared.InQueue.{InQueue}
-use Rattle.store.specs.declared.OutQueue.{OutQueue}
-use Rattle.store.specs.declared.Made.{Made}
-use Rattle.store.specs.declared.Store.{Store}
+use Rattle.shape.specs.Parts.{over, noInEntry, noOutEntry}
+use Rattle.shape.specs.declared.Cache.{Cache}
+use Rattle.shape.specs.declared.InQueue.{InQueue}
+use Rattle.shape.specs.declared.OutQueue.{OutQueue}
+use Rattle.shape.specs.declared.Made.{Made}
+use Rattle.shape.specs.declared.Store.{Store}
 
 abbrev pub emptyCache : Cache
 emptyCache = record { present = replicate mostAddresses false; «data» = replicate mostAddresses 0 }

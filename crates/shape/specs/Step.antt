@@ -9,16 +9,16 @@ use Rattle.figure.specs.Record.{noRecord}
 use Rattle.figure.specs.Refusals.{Refusal, _when_, pick, firstOf, outside}
 use Rattle.figure.specs.declared.Record.{Record}
 use Rattle.figure.specs.declared.Sizes.{Sizes}
-use Rattle.store.specs.Parts.{any, change, firsts, outOf, outJoined, outLeft, inOf, inJoined, inLeft, full, ownWaits, inCache, cachedValue, cached, dropped, noOutEntry, noInEntry, noOut, noIn, noCache}
-use Rattle.store.specs.Sound.{soundOf}
-use Rattle.store.specs.declared.Answer.{Answer}
-use Rattle.store.specs.declared.Cache.{Cache}
-use Rattle.store.specs.declared.InEntry.{InEntry}
-use Rattle.store.specs.declared.InQueue.{InQueue}
-use Rattle.store.specs.declared.OutEntry.{OutEntry}
-use Rattle.store.specs.declared.OutQueue.{OutQueue}
-use Rattle.store.specs.declared.Stepped.{Stepped}
-use Rattle.store.specs.declared.Store.{Store}
+use Rattle.shape.specs.Parts.{any, change, firsts, outOf, outJoined, outLeft, inOf, inJoined, inLeft, full, ownWaits, inCache, cachedValue, cached, dropped, noOutEntry, noInEntry, noOut, noIn, noCache}
+use Rattle.shape.specs.Sound.{soundOf}
+use Rattle.shape.specs.declared.Answer.{Answer}
+use Rattle.shape.specs.declared.Cache.{Cache}
+use Rattle.shape.specs.declared.InEntry.{InEntry}
+use Rattle.shape.specs.declared.InQueue.{InQueue}
+use Rattle.shape.specs.declared.OutEntry.{OutEntry}
+use Rattle.shape.specs.declared.OutQueue.{OutQueue}
+use Rattle.shape.specs.declared.Stepped.{Stepped}
+use Rattle.shape.specs.declared.Store.{Store}
 
 -- engine i's parts stand at place i - 1
 abbrev pub outAt : Store → ℕ → OutQueue

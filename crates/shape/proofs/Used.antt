@@ -13,21 +13,21 @@ use Rattle.figure.specs.Refusals.{firstOf, mostEngines, mostAddresses}
 use Rattle.figure.specs.declared.Record.{Record}
 use Rattle.figure.specs.declared.Sizes.{Sizes}
 use Rattle.figure.proofs.Laws.{and-right, each}
-use Rattle.store.proofs.Kept.{Ranged, sizes-ranged, Sound, sound-parts, ranged, oldest-sound, oldest-in-sound}
-use Rattle.store.proofs.Numbers.{unsound-number, form-number, turn-number}
-use Rattle.store.proofs.Places.{all-same, any-same, getD-change-same, getD-change-other, getD-firsts-below, out-with, in-with}
-use Rattle.store.proofs.Shaped.{Array, CacheShaped, Shaped}
-use Rattle.store.proofs.Taken.{action, Asks, asks-R, asks-W, asks-MW, asks-MR, asks-CU, asks-CI, asked, Goes, goes-R, goes-W, goes-MW, goes-MR, goes-CU, goes-CI, Answers, takes, keeps, answers}
-use Rattle.store.specs.Parts.{any, all, change, firsts, full, outOf, outJoined, outLeft, inOf, inJoined, inLeft, cached, dropped, noOutEntry, noInEntry, noOut, noIn, noCache}
-use Rattle.store.specs.Sound.{soundSizes, soundOutEntry, soundInEntry, soundOut, soundIn, soundOf}
-use Rattle.store.specs.Step.{outAt, inAt, cacheAt, memoryAt, outEntry, inEntry, oldestOut, oldestIn, formRefused, turnRefused, effect, eventOf, filled, withIns, published, updated, stepped}
-use Rattle.store.specs.declared.Cache.{Cache}
-use Rattle.store.specs.declared.InEntry.{InEntry}
-use Rattle.store.specs.declared.InQueue.{InQueue}
-use Rattle.store.specs.declared.OutEntry.{OutEntry}
-use Rattle.store.specs.declared.OutQueue.{OutQueue}
-use Rattle.store.specs.declared.Stepped.{Stepped}
-use Rattle.store.specs.declared.Store.{Store}
+use Rattle.shape.proofs.Kept.{Ranged, sizes-ranged, Sound, sound-parts, ranged, oldest-sound, oldest-in-sound}
+use Rattle.shape.proofs.Numbers.{unsound-number, form-number, turn-number}
+use Rattle.shape.proofs.Places.{all-same, any-same, getD-change-same, getD-change-other, getD-firsts-below, out-with, in-with}
+use Rattle.shape.proofs.Shaped.{Array, CacheShaped, Shaped}
+use Rattle.shape.proofs.Taken.{action, Asks, asks-R, asks-W, asks-MW, asks-MR, asks-CU, asks-CI, asked, Goes, goes-R, goes-W, goes-MW, goes-MR, goes-CU, goes-CI, Answers, takes, keeps, answers}
+use Rattle.shape.specs.Parts.{any, all, change, firsts, full, outOf, outJoined, outLeft, inOf, inJoined, inLeft, cached, dropped, noOutEntry, noInEntry, noOut, noIn, noCache}
+use Rattle.shape.specs.Sound.{soundSizes, soundOutEntry, soundInEntry, soundOut, soundIn, soundOf}
+use Rattle.shape.specs.Step.{outAt, inAt, cacheAt, memoryAt, outEntry, inEntry, oldestOut, oldestIn, formRefused, turnRefused, effect, eventOf, filled, withIns, published, updated, stepped}
+use Rattle.shape.specs.declared.Cache.{Cache}
+use Rattle.shape.specs.declared.InEntry.{InEntry}
+use Rattle.shape.specs.declared.InQueue.{InQueue}
+use Rattle.shape.specs.declared.OutEntry.{OutEntry}
+use Rattle.shape.specs.declared.OutQueue.{OutQueue}
+use Rattle.shape.specs.declared.Stepped.{Stepped}
+use Rattle.shape.specs.declared.Store.{Store}
 
 -- ---- the used places: the first entries of a queue and how many they are, a cache's addresses below m and the values of those present
 

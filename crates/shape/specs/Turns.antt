@@ -6,9 +6,9 @@ use lib.ListN.{length}
 use Rattle.figure.specs.declared.Record.{Record}
 use Rattle.lists.specs.Bytes.{laid, rows}
 use Rattle.lists.specs.Record.{recordWidth, recordAt, recordBytes}
-use Rattle.store.specs.Step.{stepped}
-use Rattle.store.specs.Trace.{traced}
-use Rattle.store.specs.declared.Store.{Store}
+use Rattle.shape.specs.Step.{stepped}
+use Rattle.shape.specs.Trace.{traced}
+use Rattle.shape.specs.declared.Store.{Store}
 
 -- action k of a list's bytes
 abbrev pub actionAt : List ℕ → ℕ → Record

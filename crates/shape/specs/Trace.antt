@@ -1,7 +1,7 @@
 -- What a step leaves in a trace. Assumes nothing.
 use Prim.Native.Nat.{ℕ, zero, suc}
 use Rattle.figure.specs.declared.Record.{Record}
-use Rattle.store.specs.declared.Stepped.{Stepped}
+use Rattle.shape.specs.declared.Stepped.{Stepped}
 
 -- "Its trace record is kind 0, the refusal number in the engine byte, then zeros."
 abbrev pub refusalRecord : ℕ → Record

@@ -10,13 +10,13 @@ use Rattle.figure.specs.Refusals.{firstOf}
 use Rattle.figure.specs.declared.Record.{Record}
 use Rattle.figure.specs.declared.Sizes.{Sizes}
 use Rattle.figure.proofs.First.{NoneApplies, Passed, testAt, numberAt, none-first, first-none, first-at, first-append, first-front}
-use Rattle.store.proofs.Kept.{sizes-ranged, fresh-numbered, fresh-sizes, fresh-table, fresh-sound, zeros-unsound}
-use Rattle.store.proofs.Shaped.{Shaped, fresh-shaped}
-use Rattle.store.proofs.Taken.{form-numbered, step-numbered}
-use Rattle.store.specs.Fresh.{freshOf, zeros, freshRefused, made, madeAs}
-use Rattle.store.specs.Sound.{soundOf}
-use Rattle.store.specs.Step.{formRefused, turnRefused, stepRefused, answered, stepped}
-use Rattle.store.specs.declared.Store.{Store}
+use Rattle.shape.proofs.Kept.{sizes-ranged, fresh-numbered, fresh-sizes, fresh-table, fresh-sound, zeros-unsound}
+use Rattle.shape.proofs.Shaped.{Shaped, fresh-shaped}
+use Rattle.shape.proofs.Taken.{form-numbered, step-numbered}
+use Rattle.shape.specs.Fresh.{freshOf, zeros, freshRefused, made, madeAs}
+use Rattle.shape.specs.Sound.{soundOf}
+use Rattle.shape.specs.Step.{formRefused, turnRefused, stepRefused, answered, stepped}
+use Rattle.shape.specs.declared.Store.{Store}
 
 -- ---- the step
 

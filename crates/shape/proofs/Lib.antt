@@ -1,0 +1,11 @@
+-- demand 2, and what every step keeps: theorems about the definitions of specs/
+pub mod Places
+pub mod Taken
+pub mod Kept
+pub mod Shaped
+pub mod Accepts
+pub mod Next
+pub mod Numbers
+pub mod Bridge
+pub mod Unused
+pub mod Used

@@ -1,0 +1,8 @@
+-- what a reader must believe of the store, in the order of document 01
+pub mod Parts
+pub mod Fresh
+pub mod Sound
+pub mod Step
+pub mod Trace
+pub mod Turns
+pub mod View
