@@ -1,7 +1,7 @@
 // A run over one list, with buffers of different lengths.
 use crate::lent;
 use crate::told;
-use history::Counts;
+use demands::Counts;
 ghost use Prim.Native.Nat.{_≤_};
 
 // Room for the trace and the account of every list, and for the spare bytes.

@@ -8,9 +8,9 @@ use lib.Dec.{eqb}
 use lib.ListN.{length, take}
 use Rattle.figure.specs.Refusals.{sizesRefused}
 use Rattle.figure.specs.declared.Record.{Record}
-use Rattle.history.specs.Lines.{accountBytes, slotLines}
-use Rattle.history.specs.Run.{runSizes, runTrace, runBook, runRefused, countsAs, acceptedIn, refusedIn}
-use Rattle.history.specs.declared.Counts.{Counts}
+use Rattle.demands.specs.Lines.{accountBytes, slotLines}
+use Rattle.demands.specs.Run.{runSizes, runTrace, runBook, runRefused, countsAs, acceptedIn, refusedIn}
+use Rattle.demands.specs.declared.Counts.{Counts}
 use Rattle.lists.specs.Bytes.{rows, each, u32At, u32Bytes}
 use Rattle.lists.specs.Read.{readOf, readRefused, layoutOf, memoryOf, actionsOf, listBytes, bodyOf}
 use Rattle.lists.specs.Record.{recordBytes}

@@ -6,9 +6,9 @@ use lib.ListN.{length, take}
 use Rattle.figure.specs.Refusals.{firstOf}
 use Rattle.figure.specs.declared.Record.{Record}
 use Rattle.figure.specs.declared.Sizes.{Sizes}
-use Rattle.history.specs.Lines.{lineWidth, accountBytes, noNumber}
-use Rattle.history.specs.Run.{runSizes, runFresh, runAction, runTrace, runBook, runRefused, countsAs}
-use Rattle.history.specs.declared.Counts.{Counts}
+use Rattle.demands.specs.Lines.{lineWidth, accountBytes, noNumber}
+use Rattle.demands.specs.Run.{runSizes, runFresh, runAction, runTrace, runBook, runRefused, countsAs}
+use Rattle.demands.specs.declared.Counts.{Counts}
 use Rattle.lists.specs.Bytes.{rows, u32Bytes}
 use Rattle.lists.specs.Read.{listBytes}
 use Rattle.lists.specs.Record.{recordWidth, recordBytes}

@@ -1,38 +1,36 @@
 -- The run's answer, from what its parts leave. Assumes nothing.
-use mathlib.Core.Bool.{Bool, true, false, not}
+use mathlib.Core.Bool.{not}
 use mathlib.Core.List.{List, [], _∷_, _++_}
-use mathlib.Core.Path.{_≡_, refl, sym, ap, subst, _∙_}
+use mathlib.Core.Path.{_≡_, refl, sym, ap, _∙_}
 use Prim.Native.Nat.{ℕ, zero, suc, _+_, _*_, _≤_, _<_}
 use native.Mathlib.Omega.{arith}
 use borrow.Author.Tests.{lt-ltb, le-ltb}
 use lib.Dec.{ltb}
-use lib.ListN.{length, getD, take, drop, length-append, length-drop}
-use lib.Seq.{take-at}
-use Rattle.figure.specs.Account.{Item, Book, account as items}
+use lib.ListN.{length, take, drop, replicate, length-append, length-replicate, getD-replicate}
+use lib.Seq.{take-at, length-take-le, getD-take}
+use Rattle.figure.specs.Account.{Item, account as items}
 use Rattle.figure.specs.Demand.{serial?}
-use Rattle.figure.specs.Refusals.{Refusal, _when_, firstOf, mostActions, mostAddresses}
-use Rattle.figure.specs.declared.Record.{Record}
-use Rattle.figure.specs.declared.Sizes.{Sizes}
+use Rattle.figure.specs.Refusals.{_when_, firstOf, mostActions}
 use Rattle.figure.proofs.First.{first-append, first-front}
 use Rattle.lists.specs.Bytes.{rows, put, laid}
-use Rattle.lists.specs.Read.{readRefused, readOf, memoryOf, memoryTable}
+use Rattle.lists.specs.Read.{readRefused, readOf, memoryTable}
 use Rattle.lists.specs.Record.{recordWidth, recordBytes}
 use Rattle.lists.specs.Write.{unless}
 use Rattle.lists.specs.declared.reader.Layout.{Layout}
 use Rattle.lists.proofs.Put.{put-front, length-put}
 use Rattle.lists.proofs.Sized.{read-number, read-numbered, sized}
-use Rattle.shape.specs.Turns.{actionAt, storeAfter}
+use Rattle.shape.specs.Turns.{actionAt}
 use Rattle.shape.specs.declared.OutQueue.{OutQueue}
-use Rattle.shape.specs.declared.Store.{Store}
 use Rattle.history.proofs.Addresses.{below-account}
-use Rattle.history.proofs.LineLaws.{Below, below-wider, agrees-memory, serial-laid, length-account}
-use Rattle.history.proofs.Runs.{runMemory, runSteps, run-book}
+use Rattle.demands.proofs.Lengths.{length-account}
+use Rattle.history.proofs.LineLaws.{below-wider, agrees-memory, serial-laid}
+use Rattle.demands.proofs.Runs.{runMemory, runSteps, run-book}
 use Rattle.history.proofs.Traces.{run-bytes-long, traced-records}
 use Rattle.history.proofs.Whole.{account-bytes, events-are, events-most, outs-short, counts-are}
-use Rattle.history.specs.Lines.{lineWidth, accountBytes}
-use Rattle.history.specs.Pieces.{recordsBelow, keysBelow, sortedLines, tailLines, linesOf, serialLines, Taken, Traced, Traceable, Accounted, Handable, Handed, handRefused, handedCounts, refusedCounts}
-use Rattle.history.specs.Run.{runSizes, runFresh, runAction, runTrace, runBook, runRefused, runNumber, countsAs, Ran}
-use Rattle.history.specs.declared.Counts.{Counts}
+use Rattle.demands.specs.Lines.{lineWidth, accountBytes}
+use Rattle.history.specs.Pieces.{recordsBelow, keysBelow, sortedLines, tailLines, serialLines, Taken, Scratch, Traced, Traceable, Accounted, Handable, Handed, handRefused, handedCounts, refusedCounts}
+use Rattle.demands.specs.Run.{runSizes, runTrace, runBook, runRefused, runNumber, countsAs, Ran}
+use Rattle.demands.specs.declared.Counts.{Counts}
 
 -- the account of the list's run
 abbrev account′ : List ℕ → List Item
@@ -79,51 +77,70 @@ module _ (list trace account : List ℕ) (l : Layout) (e : l ≡ readOf list) wh
     pub ran-29 : length trace < 8 * l .actions → (r : Counts) → r ≡ refusedCounts 29 → Ran list trace account r trace account
     ran-29 h = ran-refused list trace account 28 (past-reader ∙ rw (lt-ltb (length trace) (recordWidth * readOf list .actions) (omega (arith, actions-are))))
 
+pub taken-few : {list : List ℕ} {l : Layout} {trace : List ℕ} → Taken list l trace → l .actions ≤ mostActions
+taken-few {list} {l} g = omega (arith, ap (λ (y : Layout). y .actions) (g .layout), sized list (readOf list) refl (g .taken) .few)
+
+-- ---- scratch for lists of up to m actions
+
+pub scratch : (m n : ℕ) → n ≤ m → Scratch n (replicate (recordWidth * m) 0) (replicate (lineWidth * m) 0) (replicate m 0) (replicate m 0) (replicate (m + 1) 0)
+scratch m n h =
+    record {
+      trace-fits = rw (length-replicate {A = ℕ} (recordWidth * m) 0) (omega arith);
+      account-fits = rw (length-replicate {A = ℕ} (lineWidth * m) 0) (omega arith);
+      keys-fit = rw (length-replicate {A = ℕ} m 0) h;
+      order-fits = rw (length-replicate {A = ℕ} m 0) h;
+      counts-fit = rw (length-replicate {A = ℕ} (m + 1) 0) (omega arith);
+      zero = record { each = λ k l. getD-replicate {A = ℕ} (m + 1) k 0 0 (omega (arith, length-replicate {A = ℕ} (m + 1) 0)) };
+    }
+
 -- ---- a list that the reader takes, traced into t′ and written up into a′
 
-module _ (list : List ℕ) (l : Layout) (e : l ≡ readOf list) (ok : l .number ≡ 0) (t t′ : List ℕ) (s : Store) (long : length t ≡ recordWidth * mostActions) (h : Traced list t s t′) where
-  ok′ : readOf list .number ≡ 0
-  ok′ = taken list [] [] l e ok
+module _ {list : List ℕ} {l : Layout} {trace t a keys sorted counts : List ℕ} (g : Taken list l trace) (s : Scratch (l .actions) t a keys sorted counts) {outs : List OutQueue} {t′ : List ℕ} (h : Traced list t outs t′) where
+  ok : readOf list .number ≡ 0
+  ok = g .taken
 
   recs : recordsBelow (actionAt t′) (readOf list .actions) ≡ runTrace list
-  recs = traced-records list t t′ ok′ long (h .trace-is)
+  recs = traced-records list t t′ (h .trace-is)
 
   sizes-are : l .sizes ≡ runSizes list
-  sizes-are = ap (λ (y : Layout). y .sizes) e
+  sizes-are = ap (λ (y : Layout). y .sizes) (g .layout)
 
   n-are : l .actions ≡ readOf list .actions
-  n-are = ap (λ (y : Layout). y .actions) e
+  n-are = ap (λ (y : Layout). y .actions) (g .layout)
+
+  keys-many : length (take (l .actions) keys) ≡ l .actions
+  keys-many = length-take-le (l .actions) keys (s .keys-fit)
 
   few : readOf list .actions ≤ mostActions
-  few = sized list (readOf list) refl ok′ .few
+  few = sized list (readOf list) refl ok .few
 
-  trace-long : length t′ ≡ recordWidth * mostActions
+  trace-long : recordWidth * l .actions ≤ length t′
   unfolding laid
-  trace-long =
-      ap length (h .trace-is)
-      ∙ (length-append (rows recordBytes (runTrace list)) _ ∙ rw (length-drop (length (rows recordBytes (runTrace list))) t) (omega (arith, long, few, run-bytes-long list)))
+  trace-long = omega (arith, ap length (h .trace-is), length-append (rows recordBytes (runTrace list)) (drop (length (rows recordBytes (runTrace list))) t), run-bytes-long list, n-are)
 
-  events-few : length (account′ list) ≤ mostActions
-  events-few = omega (arith, events-most list ok′ (actionAt t′) recs, few)
+  events-few : length (account′ list) ≤ l .actions
+  events-few = omega (arith, events-most list ok (actionAt t′) recs, n-are)
 
-  pub traceable : (a : List ℕ) → length a ≡ lineWidth * mostActions → Traceable t′ (l .actions) (l .sizes) (s .outs) a
-  traceable a m =
-      rw (n-are, sizes-are, h .store)
-      (record {
-        few = few;
-        fits = omega (arith, few, trace-long);
-        some-engine = sized list (readOf list) refl ok′ .sizes-in .engines-in .low;
-        engines = sized list (readOf list) refl ok′ .sizes-in .engines-in .high;
-        short = outs-short list ok′ (actionAt t′) recs;
-        room = omega (arith, m, events-are list ok′ (actionAt t′) recs, events-few);
-      })
+  pub traceable : Traceable t′ (l .sizes) outs (take (l .actions) keys) sorted (take (l .actions + 1) counts) a
+  traceable =
+      let m : length (take (l .actions + 1) counts) ≡ l .actions + 1 = length-take-le (l .actions + 1) counts (s .counts-fit) in
+      record {
+        few = omega (arith, keys-many, n-are, few);
+        sorted-long = omega (arith, keys-many, s .order-fits);
+        counts-long = m ∙ ap (λ (k : ℕ). k + 1) (sym keys-many);
+        zero = record { each = λ k b. getD-take (l .actions + 1) counts k 0 (omega arith) ∙ s .zero .each k (omega (arith, s .counts-fit)) };
+        some-engine = rw sizes-are (sized list (readOf list) refl ok .sizes-in .engines-in .low);
+        engines = rw sizes-are (sized list (readOf list) refl ok .sizes-in .engines-in .high);
+        short = rw (sizes-are, h .outs) (outs-short list ok (actionAt t′) recs);
+        room = rw (keys-many, n-are, sizes-are, h .outs) (omega (arith, events-are list ok (actionAt t′) recs, events-few, s .account-fits));
+      }
 
-  module _ (a a′ : List ℕ) (c : Counts) (m : length a ≡ lineWidth * mostActions) (k : Accounted t′ (l .actions) (l .sizes) (s .outs) a c a′) where
-    k′ : Accounted t′ (readOf list .actions) (runSizes list) (s .outs) a c a′
-    k′ = rw (n-are, sizes-are) at k
+  module _ {c : Counts} {a′ : List ℕ} (k : Accounted t′ (length (take (l .actions) keys)) (l .sizes) outs a c a′) where
+    k′ : Accounted t′ (readOf list .actions) (runSizes list) outs a c a′
+    k′ = rw (keys-many, n-are, sizes-are) at k
 
     c-is : c ≡ countsAs 0 list
-    c-is = counts-are list ok′ (actionAt t′) recs (s .outs) t′ a c a′ (ap (λ (y : Store). y .outs) (h .store)) refl k′
+    c-is = counts-are list ok (actionAt t′) recs outs t′ a c a′ (h .outs) refl k′
 
     events-is : c .events ≡ length (account′ list)
     events-is = ap (λ (y : Counts). y .events) c-is
@@ -131,42 +148,42 @@ module _ (list : List ℕ) (l : Layout) (e : l ≡ readOf list) (ok : l .number 
     abbrev bytes : List ℕ
     bytes = accountBytes (runSizes list) (runBook list)
 
-    bytes-fit : length bytes ≤ length a
-    bytes-fit = omega (arith, length-account (runSizes list) (runBook list), m, events-few)
-
     a-is : a′ ≡ laid bytes a
     a-is =
         k′ .account-is
-        ∙ (ap (λ (o : List OutQueue). put a 0 (sortedLines (actionAt t′) (keysBelow (actionAt t′) (readOf list .actions)) ++ tailLines o (runSizes list .engines))) (ap (λ (y : Store). y .outs) (h .store))
-        ∙ (ap (put a 0) (account-bytes list ok′ (actionAt t′) recs) ∙ put-front a bytes bytes-fit))
+        ∙ (ap (λ (o : List OutQueue). put a 0 (sortedLines (actionAt t′) (keysBelow (actionAt t′) (readOf list .actions)) ++ tailLines o (runSizes list .engines))) (h .outs)
+        ∙ (ap (put a 0) (account-bytes list ok (actionAt t′) recs) ∙ put-front a bytes (omega (arith, length-account (runSizes list) (runBook list), events-few, s .account-fits))))
 
-    a-long : length a′ ≡ lineWidth * mostActions
-    a-long = ap length (k′ .account-is) ∙ (length-put a 0 _ ∙ m)
+    a-long : length a′ ≡ length a
+    a-long = ap length (k′ .account-is) ∙ length-put a 0 _
 
-    pub handable : (trace : List ℕ) → 8 * l .actions ≤ length trace → Handable t′ (8 * l .actions) a′ c trace
-    handable trace r =
+    pub handable : Handable t′ (8 * l .actions) a′ c trace
+    handable =
         record {
-          trace-fits = omega (arith, n-are, few, trace-long);
-          account-fits = omega (arith, events-is, events-few, a-long);
-          room = r;
-          small = omega (arith, events-is, events-few);
+          trace-fits = trace-long;
+          account-fits = omega (arith, events-is, events-few, a-long, s .account-fits);
+          room = g .room;
+          small = omega (arith, events-is, events-few, n-are, few);
         }
 
     serial-is : serialLines (memoryTable list) a′ 0 (c .events) ≡ serial? (runMemory list) (account′ list)
     serial-is =
         rw (a-is, events-is)
         (serial-laid (agrees-memory list) (runSizes list) (runBook list) a
-        (below-wider (account′ list) (sized list (readOf list) refl ok′ .sizes-in .addresses-in .high) (rw (run-book list ok′) (below-account (runSizes list) (runMemory list) (runSteps list)))))
+        (below-wider (account′ list) (sized list (readOf list) refl ok .sizes-in .addresses-in .high) (rw (run-book list ok) (below-account (runSizes list) (runMemory list) (runSteps list)))))
 
-    module _ (table trace account : List ℕ) (b : table ≡ memoryTable list) (r : 8 * l .actions ≤ length trace) where
+    module _ (table account : List ℕ) (b : table ≡ memoryTable list) where
       abbrev last-two : ℕ
       last-two = firstOf (30 when ltb (length account) (lineWidth * length (account′ list)) ∷ 31 when not (serial? (runMemory list) (account′ list)) ∷ [])
 
       number-is′ : firstOf (handRefused table a′ c account) ≡ runNumber list trace account
       number-is′ =
           let left : firstOf (handRefused table a′ c account) ≡ last-two = rw (b, serial-is, events-is) in
-          let right : runNumber list trace account ≡ last-two = past-reader list trace account l e ok ∙ rw (le-ltb (length trace) (recordWidth * readOf list .actions) (omega (arith, n-are))) in
+          let right : runNumber list trace account ≡ last-two = past-reader list trace account l (g .layout) (n-number) ∙ rw (le-ltb (length trace) (recordWidth * readOf list .actions) (omega (arith, n-are, g .room))) in
           left ∙ sym right
+        where
+          n-number : l .number ≡ 0
+          n-number = ap (λ (y : Layout). y .number) (g .layout) ∙ ok
 
       take-trace : take (8 * l .actions) t′ ≡ rows recordBytes (runTrace list)
       unfolding laid
@@ -180,8 +197,8 @@ module _ (list : List ℕ) (l : Layout) (e : l ≡ readOf list) (ok : l .number 
       handed-counts zero = c-is
       handed-counts (suc j) = refl
 
-      pub ran : (q : Counts) (trace′ account″ : List ℕ) → Handed table t′ (8 * l .actions) a′ c trace account q trace′ account″ → Ran list trace account q trace′ account″
-      ran q trace′ account″ d =
+      pub ran : {q : Counts} {trace′ account″ : List ℕ} → Handed table t′ (8 * l .actions) a′ c trace account q trace′ account″ → Ran list trace account q trace′ account″
+      ran d =
           record {
             counts = d .counts ∙ (handed-counts (firstOf (handRefused table a′ c account)) ∙ ap (λ (j : ℕ). countsAs j list) number-is′);
             trace-is = d .trace-is ∙ rw (take-trace, number-is′);

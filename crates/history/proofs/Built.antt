@@ -22,13 +22,13 @@ use Rattle.lists.proofs.Rows.{rows-append}
 use Rattle.shape.specs.Parts.{outOf, noOut}
 use Rattle.shape.specs.View.{eventView, outView}
 use Rattle.shape.specs.declared.OutQueue.{OutQueue}
-use Rattle.history.specs.Lines.{itemRecord, lineBytes, slotLines, noNumber, accountBytes}
+use Rattle.demands.specs.Lines.{itemRecord, lineBytes, slotLines, noNumber, accountBytes}
 use Rattle.history.specs.Pieces.{takenAt, nowhere, floorsAt, keysBelow, recordsBelow, lowestFloor, addIf, inSlot, sortedBelow, lineOf, placedLine, tailLines, totalLen}
-use Rattle.history.proofs.Fitting.{eventsBelow, records-long, book-is, fits-run}
-use Rattle.history.proofs.Placing.{Placed, placed, keys-long, lineAt}
+use Rattle.history.proofs.Fitting.{eventsBelow, book-is, fits-run}
+use Rattle.history.proofs.Placing.{Placed, placed, lineAt}
 use Rattle.history.proofs.Waiting.{numbered, rows-map, tail-lines, tail-long}
-use Rattle.history.proofs.Lengths.{log-most, perm-long}
-use Rattle.history.proofs.Bounds.{floors-small, lowest-most, lowest-same}
+use Rattle.demands.proofs.Lengths.{log-most, perm-long}
+use Rattle.history.proofs.Bounds.{floors-small, keys-long, records-long, lowest-most, lowest-alike}
 
 -- the records x 0 .. x (n - 1) are figure's trace of the steps xs, from a fresh store
 pub record Run (z : Sizes) (mem : ℕ → ℕ) (x : ℕ → Record) (n : ℕ) (xs : List Step) : Type 0 where
@@ -94,7 +94,7 @@ module _ {z : Sizes} {mem : ℕ → ℕ} {x : ℕ → Record} {n : ℕ} {xs : Li
   published-is = rw (book-is x n, add-one) (run-placed .even .published)
 
   pub lowest-is : lowestFloor (floorsAt x n) (z .engines) ≡ lowest (z .engines) (floor (bookBelow x n))
-  lowest-is = lowest-same (z .engines) (takenAt (floorsAt x n)) (floor (bookBelow x n)) taken-is
+  lowest-is = lowest-alike (z .engines) (takenAt (floorsAt x n)) (floor (bookBelow x n)) taken-is
 
   pub slots-few : length (bookBelow x n .slots) ≤ nowhere
   slots-few = omega (arith, published-is, floors-small x n .published, h .few)

@@ -1,11 +1,11 @@
 -- The events of a run fit the book that stands before each of them. Assumes nothing.
 use Prim.Native.Nat.{ℕ, zero, suc, _+_, _<_}
 use native.Mathlib.Omega.{arith}
-use mathlib.Core.Path.{_≡_, refl, _∙_}
+use mathlib.Core.Path.{_≡_, refl}
 use mathlib.Core.Bool.{Bool, true, false}
 use mathlib.Core.Option.{Option}
 use mathlib.Core.List.{List, [], _∷_, _++_, map, map-append}
-use lib.ListN.{length, length-map, length-append}
+use lib.ListN.{length, length-map}
 use Rattle.figure.specs.declared.Record.{Record}
 use Rattle.figure.specs.declared.Sizes.{Sizes}
 use Rattle.figure.specs.Refusals.{pick}
@@ -16,6 +16,7 @@ use Rattle.figure.proofs.Run.{book-append}
 use Rattle.figure.proofs.Serial.{View, Linked, nil, one, Inv, inv-next}
 use Rattle.shape.specs.View.{eventView}
 use Rattle.history.specs.Pieces.{recordsBelow}
+use Rattle.history.proofs.Bounds.{records-long}
 
 -- the oldest of the writes is i's write of d at a
 pub record Oldest (i a d : ℕ) (p : List Item) : Type 0 where
@@ -89,11 +90,6 @@ module _ (x : ℕ → Record) where
   abbrev pub eventsBelow : ℕ → List Event
   eventsBelow n = map eventView (recordsBelow x n)
 
-  pub records-long : (n : ℕ) → length (recordsBelow x n) ≡ n
-  unfolding recordsBelow
-  records-long zero = refl
-  records-long (suc n) = length-append (recordsBelow x n) (x n ∷ []) ∙ omega (arith, records-long n)
-
   events-more : (n : ℕ) → eventsBelow (suc n) ≡ eventsBelow n ++ (eventView (x n) ∷ [])
   unfolding recordsBelow
   events-more n = map-append eventView (recordsBelow x n) (x n ∷ [])
@@ -102,7 +98,7 @@ module _ (x : ℕ → Record) where
   unfolding recordsBelow bookAt
   book-is zero = refl
   book-is (suc n) =
-      let long : 0 + length (eventsBelow n) ≡ n = omega (arith, length-map (recordsBelow x n) eventView, records-long n) in
+      let long : 0 + length (eventsBelow n) ≡ n = omega (arith, length-map (recordsBelow x n) eventView, records-long x n) in
       rw (events-more n, book-append 0 (eventsBelow n) (eventView (x n) ∷ []) blank, long, book-is n)
 
   pub fits-more : (z : Sizes) (n : ℕ) → Fits z 0 (eventsBelow (suc n)) blank → Fits z 0 (eventsBelow n) blank × Fit z (bookAt n) (eventView (x n))

@@ -8,9 +8,9 @@ use lib.ListN.{length, take}
 use Rattle.figure.specs.Refusals.{pick, firstOf}
 use Rattle.lists.specs.Bytes.{laid}
 use Rattle.lists.specs.Write.{unless}
-use Rattle.history.specs.Lines.{lineWidth}
+use Rattle.demands.specs.Lines.{lineWidth}
 use Rattle.history.specs.Pieces.{serialLines, handRefused, handedCounts, refusedCounts, Handed}
-use Rattle.history.specs.declared.Counts.{Counts}
+use Rattle.demands.specs.declared.Counts.{Counts}
 
 module _ (table t : List ℕ) (n : ℕ) (a : List ℕ) (c : Counts) (trace account : List ℕ) where
   module _ (k : ℕ) (e : firstOf (handRefused table a c account) ≡ suc k) where

@@ -1,5 +1,3 @@
-pub mod Demands
-pub mod Unique
 pub mod Sorted
 pub mod Passes
 pub mod Marking
@@ -12,15 +10,10 @@ pub mod Fitting
 pub mod Placing
 pub mod Bounds
 pub mod Waiting
-pub mod Lengths
-pub mod Front
 pub mod Built
-pub mod Follows
 pub mod Addresses
-pub mod Runs
 pub mod Whole
 pub mod Handing
-pub mod Alike
 pub mod Traces
 pub mod Answers
 pub mod Composing

@@ -24,8 +24,9 @@ use Rattle.lists.proofs.Sized.{held}
 use Rattle.shape.specs.Parts.{outOf, noOut}
 use Rattle.shape.specs.declared.OutEntry.{OutEntry}
 use Rattle.shape.specs.declared.OutQueue.{OutQueue}
+use Rattle.demands.proofs.Listed.{Listed, none, more, listed-account}
 use Rattle.history.proofs.Testing.{serial-more}
-use Rattle.history.specs.Lines.{itemRecord, lineWidth, noNumber, lineBytes, slotLines, accountBytes}
+use Rattle.demands.specs.Lines.{itemRecord, lineWidth, noNumber, lineBytes, slotLines, accountBytes}
 use Rattle.history.specs.Pieces.{lineOf, placedLine, writeRecord, queueLines, tailLines, totalLen, serialLines}
 
 -- ---- how many bytes
@@ -46,20 +47,6 @@ length-tail qs (suc n) =
     let q = getD qs n noOut in
     omega (arith, length-append (tailLines qs n) (queueLines (suc n) q), length-tail qs n, length-queue (suc n) q)
 
-pub length-line-bytes : (k : ℕ) (x : Item) → length (lineBytes k x) ≡ lineWidth
-length-line-bytes k x = refl
-
-length-slots : (k : ℕ) (ss : List (List Item)) → length (slotLines k ss) ≡ lineWidth * length (flat ss)
-unfolding slotLines
-length-slots k [] = refl
-length-slots k (s ∷ ss) =
-    omega (arith, length-append (rows (lineBytes k) s) (slotLines (suc k) ss), length-rows (lineBytes k) lineWidth (length-line-bytes k) s, length-slots (suc k) ss, length-append s (flat ss))
-
-pub length-account : (z : Sizes) (b : Book) → length (accountBytes z b) ≡ lineWidth * length (account z b)
-length-account z b =
-    let us = unpublished (z .engines) (b .pending) in
-    omega (arith, length-append (slotLines 0 (b .slots)) (rows (lineBytes noNumber) us), length-slots 0 (b .slots), length-rows (lineBytes noNumber) lineWidth (length-line-bytes noNumber) us, length-append (flat (b .slots)) us)
-
 -- ---- the test of the bytes is the test of the account
 
 abbrev pub address : Item → ℕ
@@ -78,28 +65,6 @@ below-append m (x ∷ xs) ys h k = (h .0, below-append m xs ys (h .1) k)
 pub below-wider : {m n : ℕ} (xs : List Item) → m ≤ n → Below m xs → Below n xs
 below-wider [] l h = tt
 below-wider (x ∷ xs) l h = (omega (arith, h .0), below-wider xs l (h .1))
-
--- the bytes begin with a line for each item, whatever its number
-data Listed : List Item → List ℕ → Type 0 where
-  none : {bytes : List ℕ} → Listed [] bytes
-  more : (k : ℕ) (x : Item) (xs : List Item) (bytes : List ℕ) → Listed xs bytes → Listed (x ∷ xs) (lineBytes k x ++ bytes)
-
-listed-rows : (k : ℕ) (s : List Item) {xs : List Item} {bytes : List ℕ} → Listed xs bytes → Listed (s ++ xs) (rows (lineBytes k) s ++ bytes)
-unfolding rows
-listed-rows k [] l = l
-listed-rows k (x ∷ s) {xs} {bytes} l = more k x (s ++ xs) (rows (lineBytes k) s ++ bytes) (listed-rows k s l)
-
-listed-slots : (k : ℕ) (ss : List (List Item)) {xs : List Item} {bytes : List ℕ} → Listed xs bytes → Listed (flat ss ++ xs) (slotLines k ss ++ bytes)
-unfolding slotLines
-listed-slots k [] l = l
-listed-slots k (s ∷ ss) {xs} {bytes} l =
-    rw (append-assoc s (flat ss) xs, append-assoc (rows (lineBytes k) s) (slotLines (suc k) ss) bytes) (listed-rows k s (listed-slots (suc k) ss l))
-
-listed-account : (z : Sizes) (b : Book) (rest : List ℕ) → Listed (account z b) (accountBytes z b ++ rest)
-listed-account z b rest =
-    let us = unpublished (z .engines) (b .pending) in
-    let l : Listed (us ++ []) (rows (lineBytes noNumber) us ++ rest) = listed-rows noNumber us none in
-    rw (append-assoc (slotLines 0 (b .slots)) (rows (lineBytes noNumber) us) rest) (listed-slots 0 (b .slots) (rw (append-nil us) at l))
 
 -- the table of the code, and the memory of the figure
 pub record Agrees (table : List ℕ) (m : ℕ → ℕ) : Type 0 where

@@ -5,7 +5,7 @@ use mathlib.Core.Path.{_≡_, refl, sym, ap, _∙_}
 use mathlib.Core.Bool.{Bool, true, false, and-false}
 use mathlib.Core.List.{List, [], _∷_, _++_, map, map-append}
 use lib.Dec.{eqb, leb, eqb·zero-suc, eqb·suc-zero, eqb·suc-suc}
-use lib.ListN.{length, getD, set, replicate, length-append, length-set, List·getD-append}
+use lib.ListN.{length, getD, set, length-append, length-set, List·getD-append}
 use lib.Seq.{getD-at, getD-set-same, getD-set-other}
 use borrow.Author.Tests.{ne-eqb, leb-true, le-ltb}
 use Rattle.figure.specs.declared.Record.{Record}
@@ -15,9 +15,10 @@ use Rattle.figure.specs.Refusals.{mostEngines}
 use Rattle.figure.specs.Figure.{engine?}
 use Rattle.figure.specs.Account.{Event, Item, reading, writing, Book, blank, put, take-one, note}
 use Rattle.figure.proofs.Laws.{and-left, and-right, upd-one}
-use Rattle.history.specs.Lines.{itemRecord}
+use Rattle.demands.specs.Lines.{itemRecord}
 use Rattle.history.specs.declared.marks.Floors.{Floors}
 use Rattle.history.specs.Pieces.{wn, noFloors, takenAt, nowhere, isEngine, isRead, isPublication, isTaking, moved, slotOf, floorsAt, keyAt, keysBelow, addIf, inSlot, lineRecord}
+use Rattle.history.proofs.Bounds.{keys-long, none-taken}
 use Rattle.history.proofs.Told.{Told, reads, publishes, takes, other, told}
 use Rattle.history.proofs.Fitting.{Fit, Fits, bookAt, eventsBelow, fits-more}
 
@@ -62,12 +63,6 @@ pub record Even (f : Floors) (b : Book) : Type 0 where
   pub long : length (f .taken) ≡ mostEngines
   pub taken : (i : ℕ) → 1 ≤ i → i ≤ mostEngines → takenAt f i ≡ b .taken i
   pub published : suc (f .published .0) ≡ length (b .slots)
-
--- nobody has taken any
-pub none-taken : (m j : ℕ) → getD (replicate m (wn 0)) j (wn 0) .0 ≡ 0
-none-taken zero j = refl
-none-taken (suc m) zero = refl
-none-taken (suc m) (suc j) = none-taken m j
 
 even-none : Even noFloors blank
 even-none = record { long = refl; taken = λ i lo hi. none-taken mostEngines (pred i); published = refl }
@@ -165,15 +160,10 @@ in-append s u k zero h = refl
 in-append s u k (suc n) h = rw (List·getD-append s u 0 n h, in-append s u k n (omega arith))
 
 module _ (x : ℕ → Record) where
-  pub keys-long : (n : ℕ) → length (keysBelow x n) ≡ n
-  unfolding keysBelow
-  keys-long zero = refl
-  keys-long (suc n) = length-append (keysBelow x n) (keyAt x n ∷ []) ∙ omega (arith, keys-long n)
-
   in-more : (k n : ℕ) → inSlot (keysBelow x (suc n)) k (suc n) ≡ addIf (eqb (keyAt x n) k) (inSlot (keysBelow x n) k n) n
   unfolding inSlot keysBelow
   in-more k n =
-      rw (getD-at (keysBelow x n) (keyAt x n) [] 0 n (keys-long n), in-append (keysBelow x n) (keyAt x n ∷ []) k n (omega (arith, keys-long n)))
+      rw (getD-at (keysBelow x n) (keyAt x n) [] 0 n (keys-long x n), in-append (keysBelow x n) (keyAt x n ∷ []) k n (omega (arith, keys-long x n)))
 
   -- the line of event j without its number
   abbrev pub lineAt : ℕ → Record

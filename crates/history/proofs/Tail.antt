@@ -13,7 +13,7 @@ use Rattle.lists.proofs.Put.{put-put, length-put}
 use Rattle.lists.proofs.Rows.{put-none}
 use Rattle.shape.specs.Parts.{outOf, noOut}
 use Rattle.shape.specs.declared.OutQueue.{OutQueue}
-use Rattle.history.specs.Lines.{lineWidth}
+use Rattle.demands.specs.Lines.{lineWidth}
 use Rattle.history.specs.Pieces.{queueLines, tailLines, totalLen}
 use Rattle.history.proofs.LineLaws.{length-queue, length-tail}
 

@@ -12,7 +12,7 @@ use borrow.Author.Tests.{lt-ltb, le-ltb, eq-eqb, ne-eqb}
 use Rattle.figure.specs.Refusals.{pick, mostAddresses}
 use Rattle.figure.specs.declared.Record.{Record}
 use Rattle.lists.specs.Record.{recordAt}
-use Rattle.history.specs.Lines.{lineWidth}
+use Rattle.demands.specs.Lines.{lineWidth}
 use Rattle.history.specs.Pieces.{serialLines}
 
 -- one line more, whose event is e

@@ -7,9 +7,9 @@ use native.Mathlib.Omega.{arith}
 use lib.ListN.{length, take, drop, length-drop}
 use lib.Seq.{drop-drop, take-all}
 use Rattle.figure.specs.Record.{noRecord}
-use Rattle.figure.specs.Refusals.{mostActions}
+use Rattle.figure.specs.declared.Record.{Record}
 use Rattle.lists.specs.Bytes.{rows, each, laid}
-use Rattle.lists.specs.Read.{readOf, memoryOf}
+use Rattle.lists.specs.Read.{readOf, memoryOf, memoryTable}
 use Rattle.lists.specs.Record.{recordWidth, recordBytes, recordAt}
 use Rattle.lists.specs.declared.reader.Layout.{Layout}
 use Rattle.lists.proofs.Actions.{getD-actions}
@@ -19,14 +19,14 @@ use Rattle.lists.proofs.Rows.{length-rows}
 use Rattle.lists.proofs.Sized.{sized}
 use Rattle.lists.proofs.Table.{part-in, part-is}
 use Rattle.shape.specs.Fresh.{made}
-use Rattle.shape.specs.Turns.{actionAt, turnsOf, Turned}
-use Rattle.shape.specs.declared.Made.{Made}
+use Rattle.shape.specs.Turns.{actionAt, storeAfter, traceAfter, bytesOf, turnsOf}
+use Rattle.shape.specs.declared.OutQueue.{OutQueue}
 use Rattle.shape.specs.declared.Store.{Store}
 use Rattle.shape.proofs.Numbers.{made-number, made-store}
-use Rattle.history.proofs.Alike.{store-alike, trace-alike, length-trace}
-use Rattle.history.proofs.Runs.{fresh-taken}
+use Rattle.demands.proofs.Alike.{store-alike, trace-alike, length-trace}
+use Rattle.demands.proofs.Runs.{fresh-taken}
 use Rattle.history.specs.Pieces.{recordsBelow, Taken, Traced}
-use Rattle.history.specs.Run.{runSizes, runFresh, runAction, runTrace}
+use Rattle.demands.specs.Run.{runSizes, runFresh, runAction, runTrace}
 
 -- the records that stand in some bytes, one after another
 pub records-each : (bytes : List ℕ) (n : ℕ) → recordsBelow (actionAt bytes) n ≡ each recordAt recordWidth bytes 0 n
@@ -43,18 +43,18 @@ module _ (list : List ℕ) where
   run-bytes-long = length-rows recordBytes recordWidth (λ r. refl) (runTrace list) ∙ ap (λ (n : ℕ). recordWidth * n) run-long
 
 -- what the run reads back off the bytes that tracing left is the run's trace
-pub traced-records : (list t t′ : List ℕ) → readOf list .number ≡ 0 → length t ≡ recordWidth * mostActions → t′ ≡ laid (rows recordBytes (runTrace list)) t → recordsBelow (actionAt t′) (readOf list .actions) ≡ runTrace list
+pub traced-records : (list t t′ : List ℕ) → t′ ≡ laid (rows recordBytes (runTrace list)) t → recordsBelow (actionAt t′) (readOf list .actions) ≡ runTrace list
 unfolding laid
-traced-records list t t′ ok long e =
+traced-records list t t′ e =
     records-each t′ (readOf list .actions)
     ∙ rw (e, ← (run-long list))
     (each-rows recordAt recordWidth record-drop recordBytes (λ r. refl) record-back (runTrace list) (drop (length (rows recordBytes (runTrace list))) t))
 
 -- ---- tracing: the table's part is the list's memory, and the list's part holds its actions
 
-module _ (list : List ℕ) (l : Layout) (table t : List ℕ) (h : Taken list l table t) where
+module _ (list : List ℕ) (l : Layout) (t : List ℕ) (h : Taken list l t) (table : List ℕ) (b : table ≡ memoryTable list) where
   pub table-in : l .sizes .addresses ≤ length table
-  table-in = part-in list l (h .layout) table (h .table-is)
+  table-in = part-in list l (h .layout) table b
 
   numbered : l .number ≡ 0
   numbered = ap (λ (k : Layout). k .number) (h .layout) ∙ h .taken
@@ -64,7 +64,7 @@ module _ (list : List ℕ) (l : Layout) (table t : List ℕ) (h : Taken list l t
 
   made-fresh : made (l .sizes) (take (l .sizes .addresses) table) .store ≡ runFresh list
   made-fresh =
-      rw (part-is list l (h .layout) table (h .table-is), h .layout)
+      rw (part-is list l (h .layout) table b, h .layout)
       (made-store (runSizes list) (memoryOf list) (made-number (runSizes list) (memoryOf list) ∙ fresh-taken list (h .taken)))
 
   turns-taken : turnsOf (drop (l .«actions_at») list) t ≡ readOf list .actions
@@ -74,22 +74,30 @@ module _ (list : List ℕ) (l : Layout) (table t : List ℕ) (h : Taken list l t
       let f = z .few in
       let a : l .actions ≡ readOf list .actions = ap (λ (k : Layout). k .actions) (h .layout) in
       let n : length (drop (l .«actions_at») list) ≡ recordWidth * readOf list .actions = length-drop (l .«actions_at») list ∙ omega arith in
-      rw (n, h .long) (omega arith)
+      let r = h .room in
+      rw n (omega arith)
 
   same-action : (k : ℕ) → k < readOf list .actions → actionAt (drop (l .«actions_at») list) k ≡ runAction list k
   same-action k b =
       record-drop (drop (l .«actions_at») list) (recordWidth * k)
       ∙ rw (drop-drop (recordWidth * k) (l .«actions_at») list, ← (record-drop list (l .«actions_at» + recordWidth * k)), h .layout) (sym (getD-actions list k noRecord b))
 
-  -- what a fresh store and the turns from it leave
-  pub turned-traced : (m : Made) (r : Store) (t′ : List ℕ) → m ≡ made (l .sizes) (take (l .sizes .addresses) table) → Turned (m .store) (take (length list - l .«actions_at») (drop (l .«actions_at») list)) t r t′ → Traced list t r t′
+  abbrev part : List ℕ
+  part = take (length list - l .«actions_at») (drop (l .«actions_at») list)
+
+  abbrev first : Store
+  first = made (l .sizes) (take (l .sizes .addresses) table) .store
+
+  whole : part ≡ drop (l .«actions_at») list
+  whole = take-all (length list - l .«actions_at») (drop (l .«actions_at») list) (omega (arith, length-drop (l .«actions_at») list))
+
+  -- what the turns from a fresh store leave
+  pub turned-traced : (r : List OutQueue) (t′ : List ℕ) → r ≡ storeAfter first (actionAt part) (turnsOf part t) .outs → t′ ≡ laid (bytesOf (traceAfter first (actionAt part) (turnsOf part t))) t → Traced list t r t′
   unfolding runTrace
-  turned-traced m r t′ em d =
-      let part : List ℕ = drop (l .«actions_at») list in
-      let whole : take (length list - l .«actions_at») part ≡ part = take-all (length list - l .«actions_at») part (omega (arith, length-drop (l .«actions_at») list)) in
-      let fresh : m .store ≡ runFresh list = ap (λ (k : Made). k .store) em ∙ made-fresh in
-      let d′ : Turned (runFresh list) part t r t′ = rw (whole, fresh) at d in
+  turned-traced r t′ d e =
+      let x = actionAt (drop (l .«actions_at») list) in
+      let n = readOf list .actions in
       record {
-        store = d′ .store ∙ rw (turns-taken) (store-alike (runFresh list) (actionAt part) (runAction list) (readOf list .actions) same-action);
-        trace-is = d′ .trace-is ∙ rw (turns-taken, trace-alike (runFresh list) (actionAt part) (runAction list) (readOf list .actions) same-action) refl;
+        outs = rw (whole, made-fresh, turns-taken) at d ∙ ap (λ (s : Store). s .outs) (store-alike (runFresh list) x (runAction list) n same-action);
+        trace-is = rw (whole, made-fresh, turns-taken) at e ∙ ap (λ (rs : List Record). laid (bytesOf rs) t) (trace-alike (runFresh list) x (runAction list) n same-action);
       }

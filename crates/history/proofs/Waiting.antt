@@ -15,7 +15,7 @@ use Rattle.lists.proofs.Rows.{rows-append}
 use Rattle.shape.specs.Parts.{outOf, noOut}
 use Rattle.shape.specs.View.{outView}
 use Rattle.shape.specs.declared.OutQueue.{OutQueue}
-use Rattle.history.specs.Lines.{itemRecord, lineBytes, noNumber}
+use Rattle.demands.specs.Lines.{itemRecord, lineBytes, noNumber}
 use Rattle.history.specs.Pieces.{writeRecord, queueLines, tailLines, totalLen}
 
 -- a record and its number

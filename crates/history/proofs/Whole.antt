@@ -1,29 +1,26 @@
 -- The pieces of the run together: what they leave is the account of the run's book. Assumes nothing.
-use mathlib.Core.Bool.{Bool, true, false, _&&_}
-use mathlib.Core.List.{List, [], _∷_, _++_, map}
+use mathlib.Core.Bool.{true}
+use mathlib.Core.List.{List, _++_, map}
 use mathlib.Core.Path.{_≡_, refl, sym, ap, subst, _∙_}
-use Prim.Native.Nat.{ℕ, zero, suc, pred, _+_, _-_, _*_, _≤_, _<_}
+use Prim.Native.Nat.{ℕ, suc, _+_, _-_, _≤_, _<_}
 use native.Mathlib.Omega.{arith}
 use borrow.Author.Tests.{le-leb, leb-true}
 use lib.Dec.{leb}
 use lib.ListN.{length, getD, take}
 use lib.Seq.{take-length}
-use Rattle.figure.specs.Account.{Event, Book, blank, book, account, settled, floor, lowest}
-use Rattle.figure.specs.Demand.{bookOf}
+use Rattle.figure.specs.Account.{Book, blank, book, account, settled}
 use Rattle.figure.specs.Figure.{Step, fresh, after, engine?}
-use Rattle.figure.specs.Refusals.{mostActions, mostEngines, mostDepth}
+use Rattle.figure.specs.Refusals.{mostDepth}
 use Rattle.figure.specs.declared.Record.{Record}
 use Rattle.figure.specs.declared.Sizes.{Sizes}
 use Rattle.figure.proofs.Laws.{and-left}
-use Rattle.lists.specs.Bytes.{rows, put, laid}
-use Rattle.lists.specs.Read.{readOf, memoryOf, actionsOf}
-use Rattle.lists.specs.Record.{recordWidth, recordBytes}
+use Rattle.lists.specs.Read.{readOf, actionsOf}
 use Rattle.lists.proofs.Actions.{length-actions}
 use Rattle.lists.proofs.Sized.{Sized, sized}
 use Rattle.shape.specs.Fresh.{freshOf}
 use Rattle.shape.specs.Parts.{outOf, noOut}
 use Rattle.shape.specs.Step.{outAt}
-use Rattle.shape.specs.Turns.{actionAt, storeAfter, traceAfter}
+use Rattle.shape.specs.Turns.{actionAt, storeAfter}
 use Rattle.shape.specs.View.{outView, eventView, stepView}
 use Rattle.shape.specs.declared.OutQueue.{OutQueue}
 use Rattle.shape.specs.declared.Store.{Store}
@@ -31,14 +28,15 @@ use Rattle.shape.proofs.Accepts.{out-fits}
 use Rattle.shape.proofs.Kept.{sound-parts, out-sound}
 use Rattle.history.proofs.Built as built
 use Rattle.history.proofs.Built.{Run, Ending}
-use Rattle.history.proofs.Follows.{stepsBelow}
-use Rattle.history.proofs.Marking.{accepted-refused, records-long}
-use Rattle.history.proofs.Runs.{runMemory, runSteps, steps-below, followed, run-events}
+use Rattle.demands.proofs.Follows.{stepsBelow}
+use Rattle.history.proofs.Bounds.{records-long}
+use Rattle.demands.proofs.Lengths.{all-counted}
+use Rattle.demands.proofs.Runs.{runMemory, runSteps, steps-below, followed, run-events}
 use Rattle.history.proofs.Sorted.{count-sorted}
-use Rattle.history.specs.Lines.{lineWidth, accountBytes}
-use Rattle.history.specs.Pieces.{recordsBelow, keysBelow, floorsAt, countBelow, sortedBelow, lowestFloor, linesOf, sortedLines, tailLines, totalLen, nowhere, Accounted}
-use Rattle.history.specs.Run.{runSizes, runFresh, runAction, runTrace, runBook, acceptedIn, refusedIn, countsAs}
-use Rattle.history.specs.declared.Counts.{Counts}
+use Rattle.demands.specs.Lines.{accountBytes}
+use Rattle.history.specs.Pieces.{recordsBelow, keysBelow, floorsAt, countBelow, lowestFloor, linesOf, sortedLines, tailLines, Accounted}
+use Rattle.demands.specs.Run.{runSizes, runFresh, runAction, runTrace, runBook, acceptedIn, refusedIn, countsAs}
+use Rattle.demands.specs.declared.Counts.{Counts}
 
 abbrev five : ℕ → ℕ → ℕ → ℕ → ℕ → Counts
 five n a r e s = record { number = n; accepted = a; refused = r; events = e; settled = s }
@@ -92,9 +90,7 @@ module _ (list : List ℕ) (ok : readOf list .number ≡ 0) (x : ℕ → Record)
   account-bytes = sym (built.account-is run ending) ∙ ap (accountBytes z) book-is
 
   pub events-are : linesOf x n (after-all .outs) (z .engines) ≡ length (account z (runBook list))
-  events-are =
-      ap (λ (k : ℕ). k + totalLen (after-all .outs) (z .engines)) (count-sorted (keysBelow x n) nowhere)
-      ∙ (sym (built.account-long run ending) ∙ ap (λ (b : Book). length (account z b)) book-is)
+  events-are = sym (built.account-long run ending) ∙ ap (λ (b : Book). length (account z b)) book-is
 
   pub settled-are : countBelow (suc (lowestFloor (floorsAt x n) (z .engines))) (keysBelow x n) ≡ length (settled z (runBook list))
   settled-are =
@@ -114,7 +110,7 @@ module _ (list : List ℕ) (ok : readOf list .number ≡ 0) (x : ℕ → Record)
       omega (arith, ap (λ (y : Sizes). y .depth) (f .sizes))
 
   refused-are : n - acceptedIn (runTrace list) ≡ refusedIn (runTrace list)
-  refused-are = omega (arith, accepted-refused (runTrace list), ap length recs, records-long x n)
+  refused-are = omega (arith, all-counted (runTrace list), ap length recs, records-long x n)
 
   -- what the run's pieces count and leave
   pub counts-are : (outs : List OutQueue) (t a : List ℕ) (r : Counts) (a′ : List ℕ) → outs ≡ after-all .outs → actionAt t ≡ x → Accounted t n z outs a r a′ → r ≡ countsAs 0 list

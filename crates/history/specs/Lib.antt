@@ -1,4 +1,2 @@
--- what a reader must believe of the run, in the order of document 01
-pub mod Lines
-pub mod Run
+-- what the inner functions compute: contracts inside the crate cite it, no promise does
 pub mod Pieces

@@ -1,27 +1,18 @@
 // The run over a list: its trace, its account and its counts.
 ghost use mathlib.Core.Path.{_≡_};
-ghost use lib.ListN.{length, take};
-ghost use Rattle.lists.specs.Bytes.{put};
-ghost use Rattle.shape.specs.Turns.{actionAt};
-ghost use Rattle.history.specs.Pieces.{Taken, Traced, Traceable, Accounted, Sortable, sortedLines, Handable, Handed, refusedCounts};
-ghost use Rattle.history.specs.Run.{Ran};
+ghost use Prim.Native.Nat.{_≤_};
+ghost use lib.ListN.{length};
+ghost use Rattle.lists.specs.Read.{memoryTable};
+ghost use Rattle.history.specs.Pieces.{Taken, Scratch, Traced, Traceable, Accounted, Handable, Handed, refusedCounts};
+ghost use Rattle.demands.specs.Run.{Ran};
+use demands::Counts;
 use figure::Sizes;
 use lists::reader::Layout;
 use shape::OutQueue;
-use shape::Store;
 
 mod lines;
 mod marks;
 mod order;
-
-// The number of the refusal and zeros, or 0 and the four counts.
-pub struct Counts {
-    pub number: u8,
-    pub accepted: usize,
-    pub refused: usize,
-    pub events: usize,
-    pub settled: usize,
-}
 
 fn refused(number: u8) -> Counts
     ensures { λ r. ⌜ r ≡ refusedCounts number ⌝ }
@@ -35,20 +26,7 @@ fn refused(number: u8) -> Counts
     }
 }
 
-// Room for the trace and for the account of the longest list; what stands in it is written over.
-fn trace_room() -> [u8; 16384]
-    ensures { λ r. ⌜ length r ≡ 16384 ⌝ }
-{
-    [0u8; 16384]
-}
-
-fn account_room() -> [u8; 24576]
-    ensures { λ r. ⌜ length r ≡ 24576 ⌝ }
-{
-    [0u8; 24576]
-}
-
-// Everything that can refuse is known before the first byte goes into a lent buffer.
+// Everything that can refuse is known before the first byte goes into a lent buffer. A short list has little scratch to clear.
 pub fn run(list: &[u8], trace: &mut [u8], account: &mut [u8]) -> Counts
     ensures { λ r. ⌜ Ran (now (list .entry)) (now (trace .entry)) (now (account .entry)) r (now (trace .exit)) (now (account .exit)) ⌝ }
 {
@@ -61,22 +39,113 @@ pub fn run(list: &[u8], trace: &mut [u8], account: &mut [u8]) -> Counts
     if trace.len() < 8 * n {
         return refused(29);
     }
+    if n <= 64 {
+        return run_64(list, l, trace, account);
+    }
+    if n <= 512 {
+        return run_512(list, l, trace, account);
+    }
+    run_2048(list, l, trace, account)
+}
+
+// The scratch of lists of up to 64, 512 and 2,048 actions.
+fn run_64(list: &[u8], l: Layout, trace: &mut [u8], account: &mut [u8]) -> Counts
+    requires { ⌜ Taken (now list) l (now trace) × (l .actions ≤ 64) ⌝ }
+    ensures { λ r. ⌜ Ran (now (list .entry)) (now (trace .entry)) (now (account .entry)) r (now (trace .exit)) (now (account .exit)) ⌝ }
+{
+    let mut t = [0u8; 512];
+    let mut a = [0u8; 768];
+    let mut keys = [0u16; 64];
+    let mut sorted = [0u16; 64];
+    let mut counts = [0u16; 65];
+    run_in(
+        list,
+        l,
+        &mut t,
+        &mut a,
+        &mut keys,
+        &mut sorted,
+        &mut counts,
+        trace,
+        account,
+    )
+}
+
+fn run_512(list: &[u8], l: Layout, trace: &mut [u8], account: &mut [u8]) -> Counts
+    requires { ⌜ Taken (now list) l (now trace) × (l .actions ≤ 512) ⌝ }
+    ensures { λ r. ⌜ Ran (now (list .entry)) (now (trace .entry)) (now (account .entry)) r (now (trace .exit)) (now (account .exit)) ⌝ }
+{
+    let mut t = [0u8; 4096];
+    let mut a = [0u8; 6144];
+    let mut keys = [0u16; 512];
+    let mut sorted = [0u16; 512];
+    let mut counts = [0u16; 513];
+    run_in(
+        list,
+        l,
+        &mut t,
+        &mut a,
+        &mut keys,
+        &mut sorted,
+        &mut counts,
+        trace,
+        account,
+    )
+}
+
+fn run_2048(list: &[u8], l: Layout, trace: &mut [u8], account: &mut [u8]) -> Counts
+    requires { ⌜ Taken (now list) l (now trace) × (l .actions ≤ 2048) ⌝ }
+    ensures { λ r. ⌜ Ran (now (list .entry)) (now (trace .entry)) (now (account .entry)) r (now (trace .exit)) (now (account .exit)) ⌝ }
+{
+    let mut t = [0u8; 16384];
+    let mut a = [0u8; 24576];
+    let mut keys = [0u16; 2048];
+    let mut sorted = [0u16; 2048];
+    let mut counts = [0u16; 2049];
+    run_in(
+        list,
+        l,
+        &mut t,
+        &mut a,
+        &mut keys,
+        &mut sorted,
+        &mut counts,
+        trace,
+        account,
+    )
+}
+
+// The run of a list that the reader takes, in scratch that has room for it.
+fn run_in(
+    list: &[u8],
+    l: Layout,
+    t: &mut [u8],
+    a: &mut [u8],
+    keys: &mut [u16],
+    sorted: &mut [u16],
+    counts: &mut [u16],
+    trace: &mut [u8],
+    account: &mut [u8],
+) -> Counts
+    requires { ⌜ Taken (now list) l (now trace) ⌝ }
+    requires { ⌜ Scratch (l .actions) (now t) (now a) (now keys) (now sorted) (now counts) ⌝ }
+    ensures { λ r. ⌜ Ran (now (list .entry)) (now (trace .entry)) (now (account .entry)) r (now (trace .exit)) (now (account .exit)) ⌝ }
+{
+    let n = l.actions;
+    let m = n + 1;
     let table = lists::memory::memory_of(list);
-    let mut t = trace_room();
-    let s = write_trace(list, l, table, &mut t);
-    let mut a = account_room();
-    let outs = s.outs;
+    let outs = write_trace(list, l, table, t);
     let z = l.sizes;
-    let c = write_account(&t, n, z, outs, &mut a);
-    hand_over(table, &t, 8 * n, &a, c, trace, account)
+    let c = write_account(t, z, outs, &mut keys[..n], sorted, &mut counts[..m], a);
+    hand_over(table, t, 8 * n, a, c, trace, account)
 }
 
 // The account is judged, and both go into the lent buffers; or neither does.
 fn hand_over(
     table: [u32; 64],
-    t: &[u8; 16384],
+    t: &[u8],
     n: usize,
-    a: &[u8; 24576],
+    a: &[u8],
     c: Counts,
     trace: &mut [u8],
     account: &mut [u8],
@@ -96,53 +165,42 @@ fn hand_over(
     c
 }
 
-// The trace of a list that the reader takes, and the store after it.
-fn write_trace(list: &[u8], l: Layout, table: [u32; 64], t: &mut [u8; 16384]) -> Store
-    requires { ⌜ Taken (now list) l table (now t) ⌝ }
+// The trace of a list that the reader takes, and the out queues after it.
+fn write_trace(list: &[u8], l: Layout, table: [u32; 64], t: &mut [u8]) -> [OutQueue; 8]
+    requires { ⌜ Taken (now list) l (now t) × (table ≡ memoryTable (now list)) ⌝ }
     ensures { λ r. ⌜ Traced (now (list .entry)) (now (t .entry)) r (now (t .exit)) ⌝ }
 {
     let z = l.sizes;
     let m = z.addresses as usize;
-    let made = store::fresh(z, &table[..m]);
-    let s = made.store;
     let at = l.actions_at;
-    store::turns(s, &list[at..], t)
+    store::turns_from_fresh(z, &table[..m], &list[at..], t)
 }
 
-// The account of the first n events of a trace, with the writes that wait in the out queues at its end.
+// The account of a trace's first events, an event for each key, with the writes that wait in the out queues at its end.
 fn write_account(
-    t: &[u8; 16384],
-    n: usize,
+    t: &[u8],
     z: Sizes,
     outs: [OutQueue; 8],
-    a: &mut [u8; 24576],
+    keys: &mut [u16],
+    sorted: &mut [u16],
+    counts: &mut [u16],
+    a: &mut [u8],
 ) -> Counts
-    requires { ⌜ Traceable (now t) n z outs (now a) ⌝ }
-    ensures { λ r. ⌜ Accounted (now (t .entry)) n z outs (now (a .entry)) r (now (a .exit)) ⌝ }
+    requires { ⌜ Traceable (now t) z outs (now keys) (now sorted) (now counts) (now a) ⌝ }
+    ensures { λ r. ⌜ Accounted (now (t .entry)) (length (now (keys .entry))) z outs (now (a .entry)) r (now (a .exit)) ⌝ }
 {
-    let mut keys = [0u16; 2048];
-    let tally = marks::mark_all(t, n, &mut keys);
+    let tally = marks::mark_all(t, keys);
     let floors = tally.floors;
     let low = marks::lowest_floor(floors, z.engines);
-    let placed = marks::count_below(&keys, n, marks::NOWHERE);
-    put_sorted(t, keys, n, placed, a);
+    let placed = order::order(keys, counts, sorted);
+    lines::put_placed(t, keys, sorted, placed, a);
     let events = lines::put_unpublished(a, placed, outs, z.engines);
     let accepted = tally.accepted;
     Counts {
         number: 0,
         accepted,
-        refused: n - accepted,
+        refused: keys.len() - accepted,
         events,
-        settled: marks::count_below(&keys, n, low.0 + 1),
+        settled: marks::count_below(keys, low.0 + 1),
     }
-}
-
-// The placed events in the account's order.
-fn put_sorted(t: &[u8; 16384], keys: [u16; 2048], n: usize, placed: usize, a: &mut [u8; 24576])
-    requires { ⌜ Sortable keys n placed (now a) ⌝ }
-    ensures { λ _. ⌜ now (a .exit) ≡ put (now (a .entry)) 0 (sortedLines (actionAt (now (t .entry))) (take n keys)) ⌝ }
-{
-    let mut sorted = [0u16; 2048];
-    order::order(&keys[..n], &mut sorted[..n]);
-    lines::put_placed(t, &keys, &sorted, placed, a);
 }

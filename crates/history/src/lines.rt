@@ -45,8 +45,8 @@ fn number_of(key: u16) -> WriteNumber
 }
 
 // The first n indices of the order, each event's line.
-pub fn put_placed(trace: &[u8], keys: &[u16; 2048], order: &[u16; 2048], n: usize, out: &mut [u8])
-    requires { ⌜ Placing (now order) n (length (now out)) ⌝ }
+pub fn put_placed(trace: &[u8], keys: &[u16], order: &[u16], n: usize, out: &mut [u8])
+    requires { ⌜ Placing (now keys) (now order) n (length (now out)) ⌝ }
     ensures { λ _. ⌜ now (out .exit) ≡ put (now (out .entry)) 0 (rows (placedLine (actionAt (now (trace .entry))) (now (keys .entry))) (take n (now (order .entry)))) ⌝ }
 {
     let mut p = 0;

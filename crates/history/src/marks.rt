@@ -1,7 +1,7 @@
 // One pass over a trace: the slot that each event takes in the account, and the floors at its end.
 ghost use mathlib.Core.Path.{_≡_};
-ghost use Prim.Native.Nat.{_*_, _≤_};
-ghost use lib.ListN.{length, take};
+ghost use Prim.Native.Nat.{_≤_};
+ghost use lib.ListN.{length};
 ghost use Rattle.history.specs.Pieces.{wn, noFloors, isEngine, isRead, isTaking, moved, slotOf, countBelow, lowestFloor, Small, Tallied};
 ghost use Rattle.shape.specs.Turns.{actionAt};
 use figure::Engine;
@@ -20,7 +20,7 @@ pub struct Tally {
 }
 
 // No slot: past every slot that a list can have.
-pub const NOWHERE: u32 = 2049;
+const NOWHERE: u32 = 2049;
 
 fn no_floors() -> Floors
     ensures { λ r. ⌜ r ≡ noFloors ⌝ }
@@ -88,15 +88,15 @@ fn moved_by(f: Floors, e: Record) -> Floors
     f
 }
 
-// The keys of the first n events of a trace, and the tally at their end.
-pub fn mark_all(trace: &[u8], n: usize, keys: &mut [u16; 2048]) -> Tally
-    requires { ⌜ (n ≤ 2048) × ((8 * n ≤ length (now trace)) × (length (now keys) ≡ 2048)) ⌝ }
-    ensures { λ r. ⌜ Tallied (actionAt (now (trace .entry))) n r (now (keys .exit)) ⌝ }
+// The keys of a trace's first events, as many as there is room for, and the tally at their end.
+pub fn mark_all(trace: &[u8], keys: &mut [u16]) -> Tally
+    requires { ⌜ length (now keys) ≤ 2048 ⌝ }
+    ensures { λ r. ⌜ Tallied (actionAt (now (trace .entry))) (length (now (keys .entry))) r (now (keys .exit)) ⌝ }
 {
     let mut f = no_floors();
     let mut accepted = 0;
     let mut k = 0;
-    while k < n {
+    while k < keys.len() {
         let e = lists::bytes::record_at(trace, 8 * k);
         let slot = slot_of(f, e);
         keys[k] = slot.0 as u16;
@@ -118,14 +118,13 @@ fn wide(key: u16) -> u32
     key as u32
 }
 
-// How many of the first n keys are below a bound.
-pub fn count_below(keys: &[u16; 2048], n: usize, bound: u32) -> usize
-    requires { ⌜ (n ≤ 2048) × (length (now keys) ≡ 2048) ⌝ }
-    ensures { λ r. ⌜ r ≡ countBelow bound (take n (now (keys .entry))) ⌝ }
+// How many keys are below a bound.
+pub fn count_below(keys: &[u16], bound: u32) -> usize
+    ensures { λ r. ⌜ r ≡ countBelow bound (now (keys .entry)) ⌝ }
 {
     let mut c = 0;
     let mut k = 0;
-    while k < n {
+    while k < keys.len() {
         if wide(keys[k]) < bound {
             c += 1;
         }

@@ -8,7 +8,7 @@ use lib.Dec.{eqb}
 use lib.ListN.{length, length-append}
 use Rattle.figure.specs.Refusals.{pick, mostActions}
 use Rattle.lists.specs.Bytes.{Bytes, u32At}
-use Rattle.history.specs.declared.Counts.{Counts}
+use Rattle.demands.specs.declared.Counts.{Counts}
 use Rattle.report.specs.Text.{ascii, newline, series}
 use Rattle.report.specs.Decimal.{decimal, field, labelled}
 use Rattle.report.specs.Hex.{hexByte, hexWord, traceText, traceTextLength}

@@ -3,7 +3,7 @@ use mathlib.Core.Path.{_≡_}
 use mathlib.Core.List.{List, _++_}
 use Prim.Native.Nat.{ℕ}
 use borrow.Author.Tests.{eq-eqb, ne-eqb}
-use Rattle.history.specs.declared.Counts.{Counts}
+use Rattle.demands.specs.declared.Counts.{Counts}
 use Rattle.report.specs.Text.{ascii, series}
 use Rattle.report.specs.Decimal.{field}
 use Rattle.report.specs.Account.{unpublished, markField, kindField, accountLine, countsLine, refusedLine, shown, accountText}

@@ -14,7 +14,7 @@ use Rattle.lists.specs.Record.{recordWidth, recordAt}
 use Rattle.lists.specs.Read.{readRefused, layoutOf, readOf, memoryOf, memoryTable}
 use Rattle.lists.proofs.Each.{length-each, getD-each}
 use Rattle.lists.proofs.Sized.{held}
-use Rattle.history.specs.declared.Counts.{Counts}
+use Rattle.demands.specs.declared.Counts.{Counts}
 use Rattle.report.specs.Text.{ascii, newline, series}
 use Rattle.report.specs.Decimal.{decimal, field, labelled}
 use Rattle.report.specs.Hex.{hexByte}

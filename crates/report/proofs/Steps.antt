@@ -7,7 +7,7 @@ use native.Mathlib.Nat.{add-zero}
 use borrow.Author.Tests.{eq-eqb, ne-eqb}
 use Rattle.figure.specs.declared.Record.{Record}
 use Rattle.lists.specs.Record.{recordAt}
-use Rattle.history.specs.declared.Counts.{Counts}
+use Rattle.demands.specs.declared.Counts.{Counts}
 use Rattle.report.specs.Text.{ascii, written, Wrote}
 use Rattle.report.specs.Decimal.{field}
 use Rattle.report.specs.Account.{accountText, refusedLine}

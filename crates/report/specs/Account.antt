@@ -6,7 +6,7 @@ use Rattle.figure.specs.declared.Record.{Record}
 use Rattle.figure.specs.Refusals.{pick, mostActions}
 use Rattle.lists.specs.Bytes.{u32At}
 use Rattle.lists.specs.Record.{recordWidth, recordAt}
-use Rattle.history.specs.declared.Counts.{Counts}
+use Rattle.demands.specs.declared.Counts.{Counts}
 use Rattle.report.specs.Text.{ascii, newline, series}
 use Rattle.report.specs.Decimal.{decimal, field, labelled}
 

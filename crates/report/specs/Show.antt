@@ -10,7 +10,7 @@ use Rattle.figure.specs.Refusals.{pick, outside}
 use Rattle.lists.specs.Bytes.{byteAt}
 use Rattle.lists.specs.Record.{recordWidth, recordAt}
 use Rattle.lists.specs.Read.{readOf, memoryTable}
-use Rattle.history.specs.declared.Counts.{Counts}
+use Rattle.demands.specs.declared.Counts.{Counts}
 use Rattle.report.specs.Text.{ascii, newline, series}
 use Rattle.report.specs.Decimal.{decimal, field, labelled}
 use Rattle.report.specs.Hex.{hexByte}

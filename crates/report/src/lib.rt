@@ -12,7 +12,7 @@ ghost use Rattle.report.specs.Text.{Wrote};
 ghost use Rattle.report.specs.Hex.{traceText, traceTextLength};
 ghost use Rattle.report.specs.Account.{accountText, mostAccountText};
 ghost use Rattle.report.specs.Show.{showText, mostShowText};
-use history::Counts;
+use demands::Counts;
 
 // A buffer of so many bytes holds every text of an account.
 pub const MOST_ACCOUNT_TEXT: usize = 75892;

@@ -207,6 +207,9 @@ pub fresh-table : (z : Sizes) (table : List ℕ) → firstOf (freshRefused z tab
 unfolding freshRefused
 fresh-table z table e = eqb-true _ _ (not-false _ (none-split (sizesRefused z) _ (none-first (freshRefused z table) (fresh-numbered z table) e) .1 .0))
 
+pub fresh-short : (z : Sizes) (table : List ℕ) → firstOf (freshRefused z table) ≡ 0 → length table ≤ 64
+fresh-short z table e = omega (arith, fresh-table z table e, sizes-ranged z (fresh-sizes z table e) .addresses)
+
 -- a fresh store is sound
 pub fresh-sound : (z : Sizes) (table : List ℕ) → firstOf (freshRefused z table) ≡ 0 → soundOf (freshOf z table) ≡ true
 unfolding freshOf

@@ -10,7 +10,7 @@ use Rattle.figure.specs.Refusals.{firstOf}
 use Rattle.figure.specs.declared.Record.{Record}
 use Rattle.figure.specs.declared.Sizes.{Sizes}
 use Rattle.figure.proofs.First.{NoneApplies, Passed, testAt, numberAt, none-first, first-none, first-at, first-append, first-front}
-use Rattle.shape.proofs.Kept.{sizes-ranged, fresh-numbered, fresh-sizes, fresh-table, fresh-sound, zeros-unsound}
+use Rattle.shape.proofs.Kept.{fresh-numbered, fresh-short, fresh-sound, zeros-unsound}
 use Rattle.shape.proofs.Shaped.{Shaped, fresh-shaped}
 use Rattle.shape.proofs.Taken.{form-numbered, step-numbered}
 use Rattle.shape.specs.Fresh.{freshOf, zeros, freshRefused, made, madeAs}
@@ -97,6 +97,5 @@ module _ (z : Sizes) (table : List ℕ) where
       at : (t : Bool) → eqb (made z table .number) 0 ≡ t → Shaped (made z table .store)
       at true e =
           let f : firstOf (freshRefused z table) ≡ 0 = sym made-number ∙ eqb-true _ 0 e in
-          let b = sizes-ranged z (fresh-sizes z table f) in
-          rw (made-store (eqb-true _ 0 e)) (fresh-shaped z table (omega (arith, fresh-table z table f)))
+          rw (made-store (eqb-true _ 0 e)) (fresh-shaped z table (fresh-short z table f))
       at false e = rw (made-zeros (eqb-false _ 0 e)) (fresh-shaped _ [] (omega arith))

@@ -116,8 +116,13 @@ pub record Did (r : Stepped) (t : Store) (said : Answer) : Type 0 where
   pub store : t ≡ r .store
   pub answer : said ≡ answerOf r
 
-pub did-as : {r : Stepped} {t t′ : Store} {said said′ : Answer} → t ≡ t′ → said ≡ said′ → Did r t′ said′ → Did r t said
-did-as e f d = record { store = e ∙ d .store; answer = f ∙ d .answer }
+-- the store that the loop holds in parts
+abbrev pub storeOf : Sizes → List ℕ → List Cache → List OutQueue → List InQueue → Store
+storeOf z m c o q = record { sizes = z; memory = m; caches = c; outs = o; ins = q }
+
+pub did-as : {r : Stepped} {z : Sizes} {m m′ : List ℕ} {c c′ : List Cache} {o o′ : List OutQueue} {q q′ : List InQueue} {said said′ : Answer}
+    → m ≡ m′ → c ≡ c′ → o ≡ o′ → q ≡ q′ → said ≡ said′ → Did r (storeOf z m′ c′ o′ q′) said′ → Did r (storeOf z m c o q) said
+did-as em ec eo eq e d = rw (em, ec, eo, eq, e) d
 
 -- each kind, after the refusal n or after none
 module _ (t : Store) (x : Record) where

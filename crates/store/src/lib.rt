@@ -3,11 +3,12 @@ ghost use mathlib.Core.Path.{_≡_};
 ghost use mathlib.Core.Bool.{true};
 ghost use Prim.Native.Nat.{_≤_, min};
 ghost use lib.ListN.{length, replicate};
+ghost use Rattle.figure.specs.Refusals.{firstOf};
 ghost use Rattle.lists.specs.Bytes.{laid};
-ghost use Rattle.shape.specs.Fresh.{freshOf, zeros, made};
+ghost use Rattle.shape.specs.Fresh.{freshOf, zeros, freshRefused, made};
 ghost use Rattle.shape.specs.Sound.{soundOf};
 ghost use Rattle.shape.specs.Step.{stepped, answerOf};
-ghost use Rattle.shape.specs.Turns.{bytesOf, turnsOf, Turned};
+ghost use Rattle.shape.specs.Turns.{bytesOf, turnsOf, Turned, FreshTurned};
 ghost use Rattle.shape.specs.Trace.{refusalRecord};
 
 mod parts;
@@ -32,22 +33,30 @@ use shape::Store;
 pub fn fresh(z: Sizes, table: &[u32]) -> Made
     ensures { λ r. ⌜ r ≡ made z (now (table .entry)) ⌝ }
 {
-    let number = figure::judge_sizes(z);
+    let number = judge_fresh(z, table);
     if number != 0 {
         return Made {
             number,
             store: zero_store(),
         };
     }
-    if table.len() != z.addresses as usize {
-        return Made {
-            number: 10,
-            store: zero_store(),
-        };
-    }
     Made {
         number: 0,
         store: filled_store(z, table),
+    }
+}
+
+fn judge_fresh(z: Sizes, table: &[u32]) -> u8
+    ensures { λ r. ⌜ r ≡ firstOf (freshRefused z (now (table .entry))) ⌝ }
+{
+    let number = figure::judge_sizes(z);
+    if number != 0 {
+        return number;
+    }
+    if table.len() != z.addresses as usize {
+        10
+    } else {
+        0
     }
 }
 
@@ -128,6 +137,20 @@ pub fn turns(s: Store, actions: &[u8], trace: &mut [u8]) -> Store
     s
 }
 
+// The same from a fresh store, and of the store its out queues alone: a run hands no store on.
+pub fn turns_from_fresh(z: Sizes, table: &[u32], actions: &[u8], trace: &mut [u8]) -> [OutQueue; 8]
+    ensures { λ r. ⌜ FreshTurned z (now (table .entry)) (now (actions .entry)) (now (trace .entry)) r (now (trace .exit)) ⌝ }
+{
+    if judge_fresh(z, table) == 0 {
+        let s = filled_store(z, table);
+        let t = sound_turns(s, actions, trace);
+        return t.outs;
+    }
+    refuse_all(actions, trace);
+    let s = zero_store();
+    s.outs
+}
+
 fn least(a: usize, b: usize) -> usize
     ensures { λ r. ⌜ r ≡ min a b ⌝ }
 {
@@ -147,56 +170,59 @@ fn refuse_all(actions: &[u8], trace: &mut [u8])
     }
 }
 
-// The store stays in this function: a part is taken out, changed, and put back.
+// The parts stand apart in locals, so that a turn copies only those that its action uses.
 fn sound_turns(s: Store, actions: &[u8], trace: &mut [u8]) -> Store
     requires { ⌜ soundOf s ≡ true ⌝ }
     ensures { λ r. ⌜ Turned s (now (actions .entry)) (now (trace .entry)) r (now (trace .exit)) ⌝ }
 {
     let n = least(actions.len() / RECORD, trace.len() / RECORD);
-    let mut t = s;
+    let z = s.sizes;
+    let mut memory = s.memory;
+    let mut caches = s.caches;
+    let mut outs = s.outs;
+    let mut ins = s.ins;
     let mut i = 0;
     while i < n {
-        let z = t.sizes;
         let x = lists::bytes::record_at(actions, RECORD * i);
         let form = turn::judge_form(z, x);
         let kind = turn::kind_of(form, x);
         let k = turn::place_of(x.engine);
         let said = match kind {
-            1 => turn::try_read(t.caches[k], t.outs[k].len, t.ins[k], x),
+            1 => turn::try_read(caches[k], outs[k].len, ins[k], x),
             2 => {
-                let w = turn::try_write(t.outs[k], z.depth, x);
+                let w = turn::try_write(outs[k], z.depth, x);
                 let q = w.queue;
-                t.outs[k] = q;
+                outs[k] = q;
                 w.said
             }
             3 => {
-                let w = turn::try_publish(t.outs[k], t.ins, z, x);
+                let w = turn::try_publish(outs[k], ins, z, x);
                 let q = w.queue;
-                t.outs[k] = q;
+                outs[k] = q;
                 if w.said.number == 0 {
                     let at = w.said.event.address.0 as usize;
-                    t.memory[at] = w.said.event.data;
-                    t.ins = parts::all_join(t.ins, z.engines, turn::told_entry(x, w.said));
+                    memory[at] = w.said.event.data;
+                    ins = parts::all_join(ins, z.engines, turn::told_entry(x, w.said));
                 }
                 w.said
             }
             4 => {
                 let at = x.address.0 as usize;
-                let w = turn::try_refresh(t.ins[k], z.depth, t.memory[at], x);
+                let w = turn::try_refresh(ins[k], z.depth, memory[at], x);
                 let q = w.queue;
-                t.ins[k] = q;
+                ins[k] = q;
                 w.said
             }
             5 => {
-                let w = turn::try_update(t.caches[k], t.ins[k], x);
+                let w = turn::try_update(caches[k], ins[k], x);
                 let c = w.cache;
-                t.caches[k] = c;
+                caches[k] = c;
                 let q = w.queue;
-                t.ins[k] = q;
+                ins[k] = q;
                 w.said
             }
             6 => {
-                t.caches[k] = parts::drop_cached(t.caches[k], x.address);
+                caches[k] = parts::drop_cached(caches[k], x.address);
                 turn::accept(x)
             }
             _ => turn::refuse(form),
@@ -204,7 +230,13 @@ fn sound_turns(s: Store, actions: &[u8], trace: &mut [u8]) -> Store
         lists::bytes::put_record(trace, RECORD * i, turn::traced(said));
         i += 1;
     }
-    t
+    Store {
+        sizes: z,
+        memory,
+        caches,
+        outs,
+        ins,
+    }
 }
 
 // One step: the store and the action in, the number, the store and the event out.

@@ -1,6 +1,6 @@
 -- `store::sound_turns` meets its contract. The invariant, Turning: the store and the trace are those after i steps, and the store is sound. Each arm of the match is one law of Arms.antt. Assumes nothing.
 use mathlib.Core.Path.{_≡_, refl}
-use Prim.Native.Nat.{ℕ, suc, _+_, _*_, _-_, _<_}
+use Prim.Native.Nat.{ℕ, suc, _+_, _*_, _-_, _≤_, _<_}
 use native.Mathlib.Omega.{arith}
 use mathlib.Core.Logic.{inl, inr}
 use native.Mathlib.Nat.{mul-le-mul-right, le-of-lt}
@@ -11,11 +11,12 @@ use Rattle.shape.specs.Step.{formRefused, stepped}
 use Rattle.shape.specs.declared.Store.{Store}
 use mathlib.Core.Bool.{true}
 use lib.Dec.{leb}
+use lib.ListN.{length}
 use borrow.Author.Tests.{leb-true}
 use mir.Syntax.{w64}
 use mir.Val.{Fits}
 use denote.Ref.{now}
-use Rattle.store.proofs.Arms.{Ready, ready, kind-is, kind-none, Did, did-as, did-refuse, did-read, did-write, did-publish, did-block, told-address, told-room, did-refresh, did-update, did-drop}
+use Rattle.store.proofs.Arms.{Ready, ready, kind-is, kind-none, Did, storeOf, did-as, did-refuse, did-read, did-write, did-publish, did-block, told-address, told-room, did-refresh, did-update, did-drop}
 use Rattle.store.proofs.Turning.{Turning, turning-none, turning-long, turning-more, turning-all, room}
 use Rattle.store.proofs.sound_turns.Statement.{statement}
 use Rattle.store.proofs.sound_turns.Tie as tie
@@ -23,10 +24,10 @@ use Rattle.store.proofs.sound_turns.Reads as reads
 use Rattle.store.proofs.sound_turns.Lts as lts
 
 abbrev Inv-loop : tie.InvT-loop
-Inv-loop actions trace₀ n t₀ i₀ trace t i = Turning t₀ actions trace₀ n trace t i
+Inv-loop actions trace₀ n z memory₀ caches₀ outs₀ ins₀ i₀ trace memory caches outs ins i = Turning (storeOf z memory₀ caches₀ outs₀ ins₀) actions trace₀ n trace (storeOf z memory caches outs ins) i
 
 abbrev μ-loop : tie.MeasureT-loop
-μ-loop actions trace₀ n t₀ i₀ trace t i = n - i
+μ-loop actions trace₀ n z memory₀ caches₀ outs₀ ins₀ i₀ trace memory caches outs ins i = n - i
 
 fits : {k m : ℕ} (w : ℕ) → k < m → leb (m * w) 65536 ≡ true → Fits w64 (k * w)
 fits {k} {m} w a b = record { fits = omega (arith, leb-true (m * w) 65536 b, mul-le-mul-right w (le-of-lt a)) }
@@ -40,13 +41,13 @@ some n h = omega arith
 -- where the match begins: the store, the action and the kind that the match goes by
 module _ (c : tie.After-place-of Inv-loop μ-loop) where
   abbrev store-here : Store
-  store-here = c .before .before .before .before .before .before .loop .t
+  store-here = let l = c .before .before .before .before .before .loop in storeOf (c .before .before .before .before .before .before .before .before .before .before .before .before .before .before .args .s .sizes) (l .memory) (l .caches) (l .outs) (l .ins)
 
   abbrev action-here : Record
   action-here = c .before .before .before .record-at .result
 
   sound-here : soundOf store-here ≡ true
-  sound-here = c .before .before .before .before .before .before .loop .inv .sound
+  sound-here = c .before .before .before .before .before .loop .inv .sound
 
   kind-here : {m : ℕ} → c .before .kind-of .result ≡ suc m → (firstOf (formRefused (store-here .sizes) action-here) ≡ 0) × (action-here .kind ≡ suc m)
   kind-here e = kind-is (store-here .sizes) action-here (c .before .before .judge-form .ensures) (c .before .kind-of .ensures) e
@@ -57,15 +58,26 @@ module _ (c : tie.After-place-of Inv-loop μ-loop) where
   ready-here : {m : ℕ} → c .before .kind-of .result ≡ suc m → Ready store-here action-here (c .place-of .result)
   ready-here e = ready store-here action-here sound-here (kind-here e .0) (c .place-of .ensures .0)
 
+-- where a write is on its way to memory
+module _ (c : tie.After-try-publish Inv-loop μ-loop) where
+  abbrev form-here : firstOf (formRefused (store-here (c .before .before .before) .sizes) (action-here (c .before .before .before))) ≡ 0
+  form-here = kind-here (c .before .before .before) (c .before .before .match .keys3) .0
+
+  told-here : c .try-publish .result .said .event .address .0 < 64
+  told-here = let b = c .before .before .before in told-address (store-here b) (action-here b) (sound-here b) form-here (b .place-of .ensures .0) (c .try-publish .ensures)
+
 turn-less : (i n : ℕ) → i < n → n - (i + 1) < n - i
 turn-less i n h = omega arith
 
 -- a turn that there is room for
+room-here : (c : tie.At-loop Inv-loop μ-loop) → (let n = c .before .before .before .before .before .before .least .result in let a = c .before .before .before .before .before .before .before .before .before .args in (8 * n ≤ length (now (a .actions))) × (8 * n ≤ length (now (a .trace))))
+room-here c = let a = c .before .before .before .before .before .before .before .before .before .args in room (now (a .actions)) (now (a .trace)) (c .before .before .before .before .before .before .least .ensures)
+
 turn-fits : (c : tie.In-loop Inv-loop μ-loop) → Fits w64 (8 * c .before .loop .i) × Fits w64 (c .before .loop .i + 1)
-turn-fits c = let r = room (now (c .before .before .before .before .before .args .actions)) (now (c .before .before .before .before .before .args .trace)) (c .before .before .least .ensures) in (record { fits = omega arith }, record { fits = omega arith })
+turn-fits c = let r = room-here (c .before) in (record { fits = omega arith }, record { fits = omega arith })
 
 -- whichever kind it was, the step is done
-did-here : (c : tie.At-match-came Inv-loop μ-loop) → Did (stepped (store-here (c .before)) (action-here (c .before))) (c .match .t) (c .match .said)
+did-here : (c : tie.At-match-came Inv-loop μ-loop) → Did (stepped (store-here (c .before)) (action-here (c .before))) (storeOf (store-here (c .before) .sizes) (c .match .memory) (c .match .caches) (c .match .outs) (c .match .ins)) (c .match .said)
 did-here c =
     let b = c .before in
     let t = store-here b in
@@ -73,26 +85,26 @@ did-here c =
     let h = sound-here b in
     let i = b .place-of .ensures .0 in
     elim (c .match .came) [
-      | inl w ↦ did-as (w .4) (w .5) (did-read t x h (kind-here b (w .0 .keys1) .0) i (kind-here b (w .0 .keys1) .1) (w .3 .ensures))
-      | inr (inl w) ↦ did-as (w .5) (w .6) (did-write t x h (kind-here b (w .0 .keys2) .0) i (kind-here b (w .0 .keys2) .1) (w .2 .ensures))
-      | inr (inr (inl w)) ↦ did-as (w .8) (w .9) (elim (w .6 .came) [
-        | inl v ↦ did-as (v .5) refl (did-publish t x h (kind-here b (w .0 .keys3) .0) i (w .3 .ensures) (kind-here b (w .0 .keys3) .1) (v .0 .taken) (v .3 .ensures) (v .4 .ensures))
-        | inr v ↦ did-as (v .1) refl (did-block t x h (kind-here b (w .0 .keys3) .0) i (w .3 .ensures) (kind-here b (w .0 .keys3) .1) (v .0 .left))
+      | inl w ↦ did-as (w .4) (w .5) (w .6) (w .7) (w .8) (did-read t x h (kind-here b (w .0 .keys1) .0) i (kind-here b (w .0 .keys1) .1) (w .3 .ensures))
+      | inr (inl w) ↦ did-as (w .5) (w .6) (w .7) (w .8) (w .9) (did-write t x h (kind-here b (w .0 .keys2) .0) i (kind-here b (w .0 .keys2) .1) (w .2 .ensures))
+      | inr (inr (inl w)) ↦ did-as (w .7) (w .8) (w .9) (w .10) (w .11) (elim (w .5 .came) [
+        | inl v ↦ did-as (v .4) refl refl (v .5) refl (did-publish t x h (kind-here b (w .0 .keys3) .0) i (w .2 .ensures) (kind-here b (w .0 .keys3) .1) (v .0 .taken) (v .2 .ensures) (v .3 .ensures))
+        | inr v ↦ did-as (v .1) refl refl (v .2) refl (did-block t x h (kind-here b (w .0 .keys3) .0) i (w .2 .ensures) (kind-here b (w .0 .keys3) .1) (v .0 .left))
       ])
-      | inr (inr (inr (inl w))) ↦ did-as (w .7) (w .8) (did-refresh t x h (kind-here b (w .0 .keys4) .0) i (kind-here b (w .0 .keys4) .1) (w .4 .ensures))
-      | inr (inr (inr (inr (inl w)))) ↦ did-as (w .7) (w .8) (did-update t x h (kind-here b (w .0 .keys5) .0) i (kind-here b (w .0 .keys5) .1) (w .3 .ensures))
-      | inr (inr (inr (inr (inr (inl w))))) ↦ did-as (w .4) (w .5) (did-drop t x h (kind-here b (w .0 .keys6) .0) i (kind-here b (w .0 .keys6) .1) (w .2 .ensures) (w .3 .ensures))
-      | inr (inr (inr (inr (inr (inr w))))) ↦ did-as (w .2) (w .3) (did-refuse t x h (b .before .before .judge-form .ensures) (none-here b (w .0)) (w .1 .ensures))
+      | inr (inr (inr (inl w))) ↦ did-as (w .6) (w .7) (w .8) (w .9) (w .10) (did-refresh t x h (kind-here b (w .0 .keys4) .0) i (kind-here b (w .0 .keys4) .1) (w .3 .ensures))
+      | inr (inr (inr (inr (inl w)))) ↦ did-as (w .7) (w .8) (w .9) (w .10) (w .11) (did-update t x h (kind-here b (w .0 .keys5) .0) i (kind-here b (w .0 .keys5) .1) (w .3 .ensures))
+      | inr (inr (inr (inr (inr (inl w))))) ↦ did-as (w .4) (w .5) (w .6) (w .7) (w .8) (did-drop t x h (kind-here b (w .0 .keys6) .0) i (kind-here b (w .0 .keys6) .1) (w .2 .ensures) (w .3 .ensures))
+      | inr (inr (inr (inr (inr (inr w))))) ↦ did-as (w .2) (w .3) (w .4) (w .5) (w .6) (did-refuse t x h (b .before .before .judge-form .ensures) (none-here b (w .0)) (w .1 .ensures))
     ]
 
 least-requires : tie.Need-least-requires Inv-loop μ-loop
 least-requires c κs = tt
 
 loop-holds : tie.Need-loop-holds Inv-loop μ-loop
-loop-holds c = turning-none (c .before .before .before .pre)
+loop-holds c = turning-none (c .before .before .before .before .before .before .before .before .pre)
 
 mul-record-at : tie.Need-mul-record-at Inv-loop μ-loop
-mul-record-at c = turn-fits (c .before) .0
+mul-record-at c = turn-fits c .0
 
 record-at-requires : tie.Need-record-at-requires Inv-loop μ-loop
 record-at-requires c κs = tt
@@ -109,20 +121,20 @@ place-of-requires c κs = tt
 mul-try-read : tie.Need-mul-try-read Inv-loop μ-loop
 mul-try-read c = fits _ (ready-here (c .before) (c .match .keys1) .place) refl
 
-element-copy-out-try-read : tie.Need-element-copy-out-try-read Inv-loop μ-loop
-element-copy-out-try-read c = ready-here (c .before) (c .match .keys1) .place
+array-copy-out-try-read : tie.Need-array-copy-out-try-read Inv-loop μ-loop
+array-copy-out-try-read c = ready-here (c .before) (c .match .keys1) .place
 
 mul-try-read-2 : tie.Need-mul-try-read-2 Inv-loop μ-loop
 mul-try-read-2 c = fits _ (ready-here (c .before .before) (c .before .match .keys1) .place) refl
 
-element-copy-out-try-read-2 : tie.Need-element-copy-out-try-read-2 Inv-loop μ-loop
-element-copy-out-try-read-2 c = ready-here (c .before .before) (c .before .match .keys1) .place
+element-copy-out-try-read : tie.Need-element-copy-out-try-read Inv-loop μ-loop
+element-copy-out-try-read c = ready-here (c .before .before) (c .before .match .keys1) .place
 
 mul-try-read-3 : tie.Need-mul-try-read-3 Inv-loop μ-loop
 mul-try-read-3 c = fits _ (ready-here (c .before .before) (c .before .match .keys1) .place) refl
 
-element-copy-out-try-read-3 : tie.Need-element-copy-out-try-read-3 Inv-loop μ-loop
-element-copy-out-try-read-3 c = ready-here (c .before .before) (c .before .match .keys1) .place
+array-copy-out-try-read-2 : tie.Need-array-copy-out-try-read-2 Inv-loop μ-loop
+array-copy-out-try-read-2 c = ready-here (c .before .before) (c .before .match .keys1) .place
 
 try-read-requires : tie.Need-try-read-requires Inv-loop μ-loop
 try-read-requires c κs =
@@ -132,53 +144,52 @@ try-read-requires c κs =
 mul-try-write : tie.Need-mul-try-write Inv-loop μ-loop
 mul-try-write c = fits _ (ready-here (c .before) (c .match .keys2) .place) refl
 
-element-copy-out-try-write : tie.Need-element-copy-out-try-write Inv-loop μ-loop
-element-copy-out-try-write c = ready-here (c .before) (c .match .keys2) .place
+array-copy-out-try-write : tie.Need-array-copy-out-try-write Inv-loop μ-loop
+array-copy-out-try-write c = ready-here (c .before) (c .match .keys2) .place
 
 try-write-requires : tie.Need-try-write-requires Inv-loop μ-loop
 try-write-requires c κs = ready-here (c .before .before) (c .before .match .keys2) .depth
 
-mul-q : tie.Need-mul-q Inv-loop μ-loop
-mul-q c = fits _ (ready-here (c .before .before .before .before) (c .before .before .before .match .keys2) .place) refl
+mul-outs : tie.Need-mul-outs Inv-loop μ-loop
+mul-outs c = fits _ (ready-here (c .before .before .before .before) (c .before .before .before .match .keys2) .place) refl
 
-element-set-from-q : tie.Need-element-set-from-q Inv-loop μ-loop
-element-set-from-q c = ready-here (c .before .before .before .before) (c .before .before .before .match .keys2) .place
+array-set-from-outs : tie.Need-array-set-from-outs Inv-loop μ-loop
+array-set-from-outs c = ready-here (c .before .before .before .before) (c .before .before .before .match .keys2) .place
 
 mul-try-publish : tie.Need-mul-try-publish Inv-loop μ-loop
 mul-try-publish c = fits _ (ready-here (c .before) (c .match .keys3) .place) refl
 
-element-copy-out-try-publish : tie.Need-element-copy-out-try-publish Inv-loop μ-loop
-element-copy-out-try-publish c = ready-here (c .before) (c .match .keys3) .place
+array-copy-out-try-publish : tie.Need-array-copy-out-try-publish Inv-loop μ-loop
+array-copy-out-try-publish c = ready-here (c .before) (c .match .keys3) .place
 
 try-publish-requires : tie.Need-try-publish-requires Inv-loop μ-loop
 try-publish-requires c κs =
-    let r = ready-here (c .before .before .before) (c .before .before .match .keys3) in
+    let r = ready-here (c .before .before) (c .before .match .keys3) in
     (r .out-most, r .engines)
 
-mul-q-2 : tie.Need-mul-q-2 Inv-loop μ-loop
-mul-q-2 c = fits _ (ready-here (c .before .before .before .before .before) (c .before .before .before .before .match .keys3) .place) refl
+mul-outs-2 : tie.Need-mul-outs-2 Inv-loop μ-loop
+mul-outs-2 c = fits _ (ready-here (c .before .before .before .before) (c .before .before .before .match .keys3) .place) refl
 
-element-set-from-q-2 : tie.Need-element-set-from-q-2 Inv-loop μ-loop
-element-set-from-q-2 c = ready-here (c .before .before .before .before .before) (c .before .before .before .before .match .keys3) .place
+array-set-from-outs-2 : tie.Need-array-set-from-outs-2 Inv-loop μ-loop
+array-set-from-outs-2 c = ready-here (c .before .before .before .before) (c .before .before .before .match .keys3) .place
 
 cast-at : tie.Need-cast-at Inv-loop μ-loop
-cast-at c =
-    narrow (told-address (store-here (c .before .before .before .before .before .before .before .before)) (action-here (c .before .before .before .before .before .before .before .before)) (sound-here (c .before .before .before .before .before .before .before .before)) (kind-here (c .before .before .before .before .before .before .before .before) (c .before .before .before .before .before .before .before .match .keys3) .0) (c .before .before .before .before .before .before .before .before .place-of .ensures .0) (c .before .before .before .before .try-publish .ensures))
+cast-at c = narrow (told-here (c .before .before .before .before))
 
-mul-t : tie.Need-mul-t Inv-loop μ-loop
-mul-t c =
-    fits _ (told-address (store-here (c .before .before .before .before .before .before .before .before)) (action-here (c .before .before .before .before .before .before .before .before)) (sound-here (c .before .before .before .before .before .before .before .before)) (kind-here (c .before .before .before .before .before .before .before .before) (c .before .before .before .before .before .before .before .match .keys3) .0) (c .before .before .before .before .before .before .before .before .place-of .ensures .0) (c .before .before .before .before .try-publish .ensures)) refl
+mul-memory : tie.Need-mul-memory Inv-loop μ-loop
+mul-memory c = fits _ (told-here (c .before .before .before .before)) refl
 
-element-write-t : tie.Need-element-write-t Inv-loop μ-loop
-element-write-t c =
-    told-address (store-here (c .before .before .before .before .before .before .before .before)) (action-here (c .before .before .before .before .before .before .before .before)) (sound-here (c .before .before .before .before .before .before .before .before)) (kind-here (c .before .before .before .before .before .before .before .before) (c .before .before .before .before .before .before .before .match .keys3) .0) (c .before .before .before .before .before .before .before .before .place-of .ensures .0) (c .before .before .before .before .try-publish .ensures)
+array-write-memory : tie.Need-array-write-memory Inv-loop μ-loop
+array-write-memory c = told-here (c .before .before .before .before)
 
 told-entry-requires : tie.Need-told-entry-requires Inv-loop μ-loop
 told-entry-requires c κs = tt
 
 all-join-requires : tie.Need-all-join-requires Inv-loop μ-loop
 all-join-requires c κs =
-    told-room (store-here (c .before .before .before .before .before .before .before .before .before .before)) (action-here (c .before .before .before .before .before .before .before .before .before .before)) (sound-here (c .before .before .before .before .before .before .before .before .before .before)) (kind-here (c .before .before .before .before .before .before .before .before .before .before) (c .before .before .before .before .before .before .before .before .before .match .keys3) .0) (c .before .before .before .before .before .before .before .before .before .before .place-of .ensures .0) (c .before .before .before .before .before .before .try-publish .ensures) (c .before .before .before .if1 .taken)
+    let b = c .before .before .before .before .before .before .before .before in
+    let p = c .before .before .before .before .before in
+    told-room (store-here b) (action-here b) (sound-here b) (form-here p) (b .place-of .ensures .0) (p .try-publish .ensures) (c .before .before .if1 .taken)
 
 cast-at-2 : tie.Need-cast-at-2 Inv-loop μ-loop
 cast-at-2 c = narrow (ready-here (c .before .before) (c .before .match .keys4) .address)
@@ -186,69 +197,67 @@ cast-at-2 c = narrow (ready-here (c .before .before) (c .before .match .keys4) .
 mul-try-refresh : tie.Need-mul-try-refresh Inv-loop μ-loop
 mul-try-refresh c = fits _ (ready-here (c .before .before) (c .before .match .keys4) .place) refl
 
-element-copy-out-try-refresh : tie.Need-element-copy-out-try-refresh Inv-loop μ-loop
-element-copy-out-try-refresh c = ready-here (c .before .before) (c .before .match .keys4) .place
+array-copy-out-try-refresh : tie.Need-array-copy-out-try-refresh Inv-loop μ-loop
+array-copy-out-try-refresh c = ready-here (c .before .before) (c .before .match .keys4) .place
 
 mul-try-refresh-2 : tie.Need-mul-try-refresh-2 Inv-loop μ-loop
 mul-try-refresh-2 c = fits _ (ready-here (c .before .before .before) (c .before .before .match .keys4) .address) refl
 
-element-copy-out-try-refresh-2 : tie.Need-element-copy-out-try-refresh-2 Inv-loop μ-loop
-element-copy-out-try-refresh-2 c = ready-here (c .before .before .before) (c .before .before .match .keys4) .address
+array-read-try-refresh : tie.Need-array-read-try-refresh Inv-loop μ-loop
+array-read-try-refresh c = ready-here (c .before .before .before) (c .before .before .match .keys4) .address
 
 try-refresh-requires : tie.Need-try-refresh-requires Inv-loop μ-loop
-try-refresh-requires c κs = ready-here (c .before .before .before .before) (c .before .before .before .match .keys4) .depth
+try-refresh-requires c κs = ready-here (c .before .before .before) (c .before .before .match .keys4) .depth
 
-mul-q-3 : tie.Need-mul-q-3 Inv-loop μ-loop
-mul-q-3 c =
-    fits _ (ready-here (c .before .before .before .before .before .before) (c .before .before .before .before .before .match .keys4) .place) refl
+mul-ins : tie.Need-mul-ins Inv-loop μ-loop
+mul-ins c = fits _ (ready-here (c .before .before .before .before .before) (c .before .before .before .before .match .keys4) .place) refl
 
-element-set-from-q-3 : tie.Need-element-set-from-q-3 Inv-loop μ-loop
-element-set-from-q-3 c = ready-here (c .before .before .before .before .before .before) (c .before .before .before .before .before .match .keys4) .place
+array-set-from-ins : tie.Need-array-set-from-ins Inv-loop μ-loop
+array-set-from-ins c = ready-here (c .before .before .before .before .before) (c .before .before .before .before .match .keys4) .place
 
 mul-try-update : tie.Need-mul-try-update Inv-loop μ-loop
 mul-try-update c = fits _ (ready-here (c .before) (c .match .keys5) .place) refl
 
-element-copy-out-try-update : tie.Need-element-copy-out-try-update Inv-loop μ-loop
-element-copy-out-try-update c = ready-here (c .before) (c .match .keys5) .place
+array-copy-out-try-update : tie.Need-array-copy-out-try-update Inv-loop μ-loop
+array-copy-out-try-update c = ready-here (c .before) (c .match .keys5) .place
 
 mul-try-update-2 : tie.Need-mul-try-update-2 Inv-loop μ-loop
 mul-try-update-2 c = fits _ (ready-here (c .before .before) (c .before .match .keys5) .place) refl
 
-element-copy-out-try-update-2 : tie.Need-element-copy-out-try-update-2 Inv-loop μ-loop
-element-copy-out-try-update-2 c = ready-here (c .before .before) (c .before .match .keys5) .place
+array-copy-out-try-update-2 : tie.Need-array-copy-out-try-update-2 Inv-loop μ-loop
+array-copy-out-try-update-2 c = ready-here (c .before .before) (c .before .match .keys5) .place
 
 try-update-requires : tie.Need-try-update-requires Inv-loop μ-loop
 try-update-requires c κs =
     let r = ready-here (c .before .before .before) (c .before .before .match .keys5) in
     (r .in-most, r .in-each)
 
-mul-c : tie.Need-mul-c Inv-loop μ-loop
-mul-c c = fits _ (ready-here (c .before .before .before .before .before) (c .before .before .before .before .match .keys5) .place) refl
+mul-caches : tie.Need-mul-caches Inv-loop μ-loop
+mul-caches c = fits _ (ready-here (c .before .before .before .before .before) (c .before .before .before .before .match .keys5) .place) refl
 
-element-set-from-c : tie.Need-element-set-from-c Inv-loop μ-loop
-element-set-from-c c = ready-here (c .before .before .before .before .before) (c .before .before .before .before .match .keys5) .place
+array-set-from-caches : tie.Need-array-set-from-caches Inv-loop μ-loop
+array-set-from-caches c = ready-here (c .before .before .before .before .before) (c .before .before .before .before .match .keys5) .place
 
-mul-q-4 : tie.Need-mul-q-4 Inv-loop μ-loop
-mul-q-4 c =
-    fits _ (ready-here (c .before .before .before .before .before .before) (c .before .before .before .before .before .match .keys5) .place) refl
+mul-ins-2 : tie.Need-mul-ins-2 Inv-loop μ-loop
+mul-ins-2 c = fits _ (ready-here (c .before .before .before .before .before .before) (c .before .before .before .before .before .match .keys5) .place) refl
 
-element-set-from-q-4 : tie.Need-element-set-from-q-4 Inv-loop μ-loop
-element-set-from-q-4 c = ready-here (c .before .before .before .before .before .before) (c .before .before .before .before .before .match .keys5) .place
+array-set-from-ins-2 : tie.Need-array-set-from-ins-2 Inv-loop μ-loop
+array-set-from-ins-2 c = ready-here (c .before .before .before .before .before .before) (c .before .before .before .before .before .match .keys5) .place
 
 mul-drop-cached : tie.Need-mul-drop-cached Inv-loop μ-loop
 mul-drop-cached c = fits _ (ready-here (c .before) (c .match .keys6) .place) refl
 
-element-copy-out-drop-cached : tie.Need-element-copy-out-drop-cached Inv-loop μ-loop
-element-copy-out-drop-cached c = ready-here (c .before) (c .match .keys6) .place
+array-copy-out-drop-cached : tie.Need-array-copy-out-drop-cached Inv-loop μ-loop
+array-copy-out-drop-cached c = ready-here (c .before) (c .match .keys6) .place
 
 drop-cached-requires : tie.Need-drop-cached-requires Inv-loop μ-loop
 drop-cached-requires c κs = ready-here (c .before .before) (c .before .match .keys6) .address
 
-mul-t90 : tie.Need-mul-t90 Inv-loop μ-loop
-mul-t90 c = fits _ (ready-here (c .before .before .before) (c .before .before .match .keys6) .place) refl
+mul-caches-2 : tie.Need-mul-caches-2 Inv-loop μ-loop
+mul-caches-2 c = fits _ (ready-here (c .before .before .before) (c .before .before .match .keys6) .place) refl
 
-element-set-from-t : tie.Need-element-set-from-t Inv-loop μ-loop
-element-set-from-t c = ready-here (c .before .before .before) (c .before .before .match .keys6) .place
+array-set-from-caches-2 : tie.Need-array-set-from-caches-2 Inv-loop μ-loop
+array-set-from-caches-2 c = ready-here (c .before .before .before) (c .before .before .match .keys6) .place
 
 accept-requires : tie.Need-accept-requires Inv-loop μ-loop
 accept-requires c κs = tt
@@ -257,7 +266,7 @@ refuse-requires : tie.Need-refuse-requires Inv-loop μ-loop
 refuse-requires c κs = some _ (none-here (c .before) (c .match))
 
 mul-put-record : tie.Need-mul-put-record Inv-loop μ-loop
-mul-put-record c = turn-fits (c .before .before .before .before .before .before .before) .0
+mul-put-record c = turn-fits (c .before .before .before .before .before .before) .0
 
 traced-requires : tie.Need-traced-requires Inv-loop μ-loop
 traced-requires c κs = tt
@@ -266,21 +275,20 @@ put-record-requires : tie.Need-put-record-requires Inv-loop μ-loop
 put-record-requires c κs = tt
 
 add-i : tie.Need-add-i Inv-loop μ-loop
-add-i c = turn-fits (c .before .before .before .before .before .before .before .before .before .before .before) .1
+add-i c = turn-fits (c .before .before .before .before .before .before .before .before .before .before) .1
 
 loop-less : tie.Need-loop-less Inv-loop μ-loop
-loop-less c = turn-less _ _ (c .before .before .before .before .before .before .before .before .before .before .before .loop-test .taken)
+loop-less c = turn-less _ _ (c .before .before .before .before .before .before .before .before .before .before .loop-test .taken)
 
 loop-again : tie.Need-loop-again Inv-loop μ-loop
 loop-again c =
-    turning-more (c .before .before .before .before .before .before .before .before .before .before .before .before .loop .inv) (c .before .before .before .before .before .before .before .before .before .before .before .loop-test .taken) ((room (now (c .before .before .before .before .before .before .before .before .before .before .before .before .before .before .before .before .args .actions)) (now (c .before .before .before .before .before .before .before .before .before .before .before .before .before .before .before .before .args .trace)) (c .before .before .before .before .before .before .before .before .before .before .before .before .before .least .ensures)) .1) (c .before .before .before .before .before .before .before .before .before .record-at .ensures) (did-here (c .before .before .before .before .before)) (c .before .before .before .traced .ensures) (c .before .before .put-record .ensures)
+    turning-more (c .before .before .before .before .before .before .before .before .before .before .before .loop .inv) (c .before .before .before .before .before .before .before .before .before .before .loop-test .taken) (room-here (c .before .before .before .before .before .before .before .before .before .before .before) .1) (c .before .before .before .before .before .before .before .before .before .record-at .ensures) (did-here (c .before .before .before .before .before)) (c .before .before .before .traced .ensures) (c .before .before .put-record .ensures)
 
 same-length : tie.Need-same-length Inv-loop μ-loop
-same-length c =
-    turning-long (c .before .loop .inv) ((room (now (c .before .before .before .before .before .args .actions)) (now (c .before .before .before .before .before .args .trace)) (c .before .before .least .ensures)) .1)
+same-length c = turning-long (c .before .loop .inv) (room-here (c .before) .1)
 
 returns : tie.Need-returns Inv-loop μ-loop
-returns c = turning-all (c .before .before .least .ensures) (c .before .loop .inv) (c .loop-test .left)
+returns c = turning-all (c .before .before .before .before .before .before .before .least .ensures) (c .before .loop .inv) (c .loop-test .left)
 
 pub sound-turns-spec : {M : Type 1} → statement M
 sound-turns-spec =
@@ -296,49 +304,49 @@ sound-turns-spec =
     kind-of-requires
     place-of-requires
     mul-try-read
-    element-copy-out-try-read
+    array-copy-out-try-read
     mul-try-read-2
-    element-copy-out-try-read-2
+    element-copy-out-try-read
     mul-try-read-3
-    element-copy-out-try-read-3
+    array-copy-out-try-read-2
     try-read-requires
     mul-try-write
-    element-copy-out-try-write
+    array-copy-out-try-write
     try-write-requires
-    mul-q
-    element-set-from-q
+    mul-outs
+    array-set-from-outs
     mul-try-publish
-    element-copy-out-try-publish
+    array-copy-out-try-publish
     try-publish-requires
-    mul-q-2
-    element-set-from-q-2
+    mul-outs-2
+    array-set-from-outs-2
     cast-at
-    mul-t
-    element-write-t
+    mul-memory
+    array-write-memory
     told-entry-requires
     all-join-requires
     cast-at-2
     mul-try-refresh
-    element-copy-out-try-refresh
+    array-copy-out-try-refresh
     mul-try-refresh-2
-    element-copy-out-try-refresh-2
+    array-read-try-refresh
     try-refresh-requires
-    mul-q-3
-    element-set-from-q-3
+    mul-ins
+    array-set-from-ins
     mul-try-update
-    element-copy-out-try-update
+    array-copy-out-try-update
     mul-try-update-2
-    element-copy-out-try-update-2
+    array-copy-out-try-update-2
     try-update-requires
-    mul-c
-    element-set-from-c
-    mul-q-4
-    element-set-from-q-4
+    mul-caches
+    array-set-from-caches
+    mul-ins-2
+    array-set-from-ins-2
     mul-drop-cached
-    element-copy-out-drop-cached
+    array-copy-out-drop-cached
     drop-cached-requires
-    mul-t90
-    element-set-from-t
+    mul-caches-2
+    array-set-from-caches-2
     accept-requires
     refuse-requires
     mul-put-record

@@ -1,12 +1,9 @@
-use Prim.Native.Nat.{_-_, _*_, _<_}
+use Prim.Native.Nat.{_-_, _*_}
 use native.Mathlib.Omega.{arith}
 use borrow.Author.Needs.{needs}
 use mathlib.Core.Path.{refl, _∙_}
-use lib.ListN.{getD}
-use denote.Ref.{now}
-use Rattle.figure.specs.Refusals.{mostActions}
 use Rattle.shape.specs.Turns.{actionAt}
-use Rattle.history.specs.Lines.{lineWidth}
+use Rattle.demands.specs.Lines.{lineWidth}
 use Rattle.history.specs.Pieces.{placedLine}
 use Rattle.history.proofs.Firsts.{Firsts, firsts-none, firsts-long, firsts-room, firsts-more, firsts-all}
 use Rattle.history.proofs.lines.put_placed.Statement.{statement}
@@ -19,32 +16,30 @@ abbrev μ-loop : tie.MeasureT-loop
 μ-loop trace keys order n out₀ p₀ out p = n - p
 
 loop-holds : tie.Need-loop-holds Inv-loop μ-loop
-loop-holds c = let p = c .before .before .pre in firsts-none (omega (arith, p)) (omega (arith, p))
+loop-holds c = let p = c .before .before .before .before .pre in firsts-none (p .order-long) (omega (arith, p .fits))
 
 mul-j : tie.Need-mul-j Inv-loop μ-loop
 mul-j c = search needs
 
-element-copy-out-j : tie.Need-element-copy-out-j Inv-loop μ-loop
-element-copy-out-j c = search needs
-
--- the index that the order has at place p
-index : (c : tie.In-loop Inv-loop μ-loop) → getD (now (c .before .before .before .before .args .order)) (c .before .loop .p) 0 < mostActions
-index c = c .before .before .before .before .pre .within (c .before .loop .p) (c .loop-test .taken)
+shared-slice-read-j : tie.Need-shared-slice-read-j Inv-loop μ-loop
+shared-slice-read-j c = let h = c .before .before .before .before .before .before .before .pre .order-long in search needs
 
 cast-j : tie.Need-cast-j Inv-loop μ-loop
-cast-j c = omega (arith, index (c .before))
+cast-j c = omega (arith, c .shared-slice-known4 .given (c .before .before .loop .p))
 
 mul-record-at : tie.Need-mul-record-at Inv-loop μ-loop
-mul-record-at c = omega (arith, index (c .before))
+mul-record-at c = omega (arith, c .shared-slice-known4 .given (c .before .before .loop .p))
 
 record-at-requires : tie.Need-record-at-requires Inv-loop μ-loop
 record-at-requires c κs = search needs
 
 mul-number-of : tie.Need-mul-number-of Inv-loop μ-loop
-mul-number-of c = omega (arith, index (c .before .before))
+mul-number-of c = omega (arith, c .before .shared-slice-known4 .given (c .before .before .before .loop .p))
 
-element-copy-out-number-of : tie.Need-element-copy-out-number-of Inv-loop μ-loop
-element-copy-out-number-of c = index (c .before .before)
+shared-slice-read-number-of : tie.Need-shared-slice-read-number-of Inv-loop μ-loop
+shared-slice-read-number-of c =
+    let i = c .before .before .before in
+    i .before .before .before .before .before .before .pre .within (i .before .loop .p) (i .loop-test .taken)
 
 number-of-requires : tie.Need-number-of-requires Inv-loop μ-loop
 number-of-requires c κs = search needs
@@ -84,12 +79,12 @@ put-placed-spec =
     μ-loop
     loop-holds
     mul-j
-    element-copy-out-j
+    shared-slice-read-j
     cast-j
     mul-record-at
     record-at-requires
     mul-number-of
-    element-copy-out-number-of
+    shared-slice-read-number-of
     number-of-requires
     mul-put-line
     put-line-requires

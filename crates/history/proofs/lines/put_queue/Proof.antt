@@ -8,7 +8,7 @@ use lib.Seq.{length-take-le}
 use Rattle.figure.specs.Refusals.{mostDepth}
 use Rattle.shape.specs.declared.OutEntry.{OutEntry}
 use Rattle.shape.specs.Parts.{outOf, noOutEntry}
-use Rattle.history.specs.Lines.{lineWidth, noNumber}
+use Rattle.demands.specs.Lines.{lineWidth, noNumber}
 use Rattle.history.specs.Pieces.{lineOf, writeRecord}
 use Rattle.history.proofs.Firsts.{Firsts, firsts-none, firsts-long, firsts-room, firsts-more, firsts-all}
 use Rattle.history.proofs.lines.put_queue.Statement.{statement}

@@ -4,42 +4,43 @@ use Prim.Native.Nat.{ℕ, _+_, _-_, _≤_, zero-le}
 use native.Mathlib.Omega.{arith}
 use denote.Ref.{now}
 use borrow.Author.Needs.{needs}
-use lib.ListN.{take}
+use lib.ListN.{length, take}
+use lib.Seq.{take-all}
 use Rattle.history.specs.Pieces.{countBelow}
 use Rattle.history.proofs.Sorted.{count-none, count-hit, count-miss}
 use Rattle.history.proofs.marks.count_below.Statement.{statement}
 use Rattle.history.proofs.marks.count_below.Tie as tie
 
 abbrev Inv-loop : tie.InvT-loop
-Inv-loop keys n bound c₀ k₀ c k = (k ≤ n) × ((c ≤ k) × (c ≡ countBelow bound (take k keys)))
+Inv-loop keys bound c₀ k₀ c k = (k ≤ length keys) × ((c ≤ k) × (c ≡ countBelow bound (take k keys)))
 
 abbrev μ-loop : tie.MeasureT-loop
-μ-loop keys n bound c₀ k₀ c k = n - k
+μ-loop keys bound c₀ k₀ c k = length keys - k
 
 loop-holds : tie.Need-loop-holds Inv-loop μ-loop
-loop-holds c = (zero-le, (zero-le, sym (count-none (now (c .args .keys)) (c .args .bound))))
+loop-holds c = (zero-le, (zero-le, sym (count-none (now (c .before .args .keys)) (c .before .args .bound))))
 
 mul-wide : tie.Need-mul-wide Inv-loop μ-loop
-mul-wide c = omega arith
+mul-wide c = search needs
 
-element-copy-out-wide : tie.Need-element-copy-out-wide Inv-loop μ-loop
-element-copy-out-wide c = omega arith
+shared-slice-read-wide : tie.Need-shared-slice-read-wide Inv-loop μ-loop
+shared-slice-read-wide c = search needs
 
 wide-requires : tie.Need-wide-requires Inv-loop μ-loop
 wide-requires c κs = search needs
 
 add-c : tie.Need-add-c Inv-loop μ-loop
-add-c c = omega arith
+add-c c = search needs
 
 add-k : tie.Need-add-k Inv-loop μ-loop
-add-k c = omega arith
+add-k c = search needs
 
 loop-less : tie.Need-loop-less Inv-loop μ-loop
-loop-less c = omega arith
+loop-less c = search needs
 
 loop-again : tie.Need-loop-again Inv-loop μ-loop
 loop-again c =
-    let a = c .before .before .before .before .before .args in
+    let a = c .before .before .before .before .before .before .args in
     let l = c .before .before .before .before .loop in
     let e = c .before .wide .ensures in
     ⊎-elim
@@ -49,8 +50,8 @@ loop-again c =
 
 returns : tie.Need-returns Inv-loop μ-loop
 returns c =
-    let e : c .before .loop .k ≡ c .before .before .args .n = omega arith in
-    c .before .loop .inv .1 .1 ∙ ap (λ (m : ℕ). countBelow (c .before .before .args .bound) (take m (now (c .before .before .args .keys)))) e
+    let a = c .before .before .before .args in
+    c .before .loop .inv .1 .1 ∙ ap (countBelow (a .bound)) (take-all (c .before .loop .k) (now (a .keys)) (omega arith))
 
 pub count-below-spec : {M : Type 1} → statement M
 count-below-spec =
@@ -60,7 +61,7 @@ count-below-spec =
     μ-loop
     loop-holds
     mul-wide
-    element-copy-out-wide
+    shared-slice-read-wide
     wide-requires
     add-c
     add-k

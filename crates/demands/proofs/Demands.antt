@@ -38,13 +38,14 @@ use Rattle.shape.proofs.Bridge.{formed-accepts, formed-next, formed-tells}
 use Rattle.shape.proofs.Kept.{refused-keeps}
 use Rattle.shape.proofs.Numbers.{step-number, step-zero, zero-step, made-number, made-zeros}
 use Rattle.shape.proofs.Shaped.{Shaped}
-use Rattle.history.proofs.Alike.{length-trace}
-use Rattle.history.proofs.Follows.{stepsBelow, Followed}
-use Rattle.history.proofs.LineLaws.{length-account}
-use Rattle.history.proofs.Runs.{runMemory, runSteps, followed, run-events, run-book}
-use Rattle.history.specs.Lines.{lineWidth, accountBytes}
-use Rattle.history.specs.Run.{runSizes, runFresh, runAction, runTrace, runBook, ownRefused, runRefused, runNumber, countsAs, Ran}
-use Rattle.history.specs.declared.Counts.{Counts}
+use Rattle.demands.proofs.Alike.{length-trace}
+use Rattle.demands.proofs.Follows.{stepsBelow, Followed}
+use Rattle.demands.proofs.Lengths.{length-account, all-counted}
+use Rattle.demands.proofs.Listed.{Listed, listed-account}
+use Rattle.demands.proofs.Runs.{runMemory, runSteps, followed, run-events, run-book}
+use Rattle.demands.specs.Lines.{lineWidth, accountBytes}
+use Rattle.demands.specs.Run.{runSizes, runFresh, runAction, runTrace, runBook, ownRefused, runRefused, runNumber, countsAs, Ran}
+use Rattle.demands.specs.declared.Counts.{Counts}
 
 -- ==== Demand 1. "Every call answers for every list, record, table or state, and ends. No caller has tested anything."
 -- Every public function of the crates is proved, with no `requires`: that is the checker's own verdict. What is left is:
@@ -145,7 +146,11 @@ bookAfter list k = book 0 (map eventView (traceAfter (runFresh list) (runAction 
 pub record Demand3 (list account′ : List ℕ) (r : Counts) : Type 0 where
   -- what stands at the front of the account buffer is the account of what the trace says happened
   pub bytes : take (lineWidth * r .events) account′ ≡ accountBytes (runSizes list) (runBook list)
+  -- one line for each item, in their order
+  pub lines : Listed (account (runSizes list) (runBook list)) account′
   pub events : r .events ≡ length (account (runSizes list) (runBook list))
+  -- each action is accepted or refused
+  pub counted : r .accepted + r .refused ≡ length (runTrace list)
   pub settled-count : r .settled ≡ length (settled (runSizes list) (runBook list))
   -- "the account holds each accepted read and write exactly once"
   pub once : Perm (account (runSizes list) (runBook list)) (log 0 (map eventView (runTrace list)))
@@ -214,7 +219,9 @@ module _ {list trace account′ : List ℕ} {r : Counts} {trace″ account″ : 
       let g = right-of list reader-took in
       record {
         bytes = rw (h .account-is, number-zero, counts-of) (take-at (accountBytes z′ (runBook list)) _ _ (length-account z′ (runBook list)));
+        lines = rw (h .account-is, number-zero) (listed-account z′ (runBook list) _);
         events = ap (λ (c : Counts). c .events) counts-of;
+        counted = rw (counts-of) (all-counted (runTrace list));
         settled-count = ap (λ (c : Counts). c .settled) counts-of;
         once = rw (run-book list reader-took, f) (g .once);
         tagged = rw (f) (g .tagged);

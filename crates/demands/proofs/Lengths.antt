@@ -1,5 +1,5 @@
--- Lengths: of a log, of a rearrangement, of the two counts of a trace. Assumes nothing.
-use Prim.Native.Nat.{ℕ, suc, _+_, _≤_}
+-- Lengths: of a log, of a rearrangement, of the two counts of a trace, of the account in bytes. Assumes nothing.
+use Prim.Native.Nat.{ℕ, suc, _+_, _*_, _≤_}
 use native.Mathlib.Nat.{ℕ-set}
 use native.Mathlib.Omega.{arith}
 use mathlib.Core.Path.{_≡_, refl, ap, _∙_}
@@ -9,8 +9,12 @@ use mathlib.Core.List.{List, [], _∷_, List·Permᴰ, List·Permᴰ·nil, List�
 use lib.ListN.{length, length-append}
 use Rattle.figure.specs.declared.Record.{Record}
 use Rattle.figure.specs.Refusals.{pick}
-use Rattle.figure.specs.Account.{Event, refused, read, wrote, published, refreshed, updated, dropped, logged, log}
-use Rattle.history.specs.Run.{isRefused, acceptedIn, refusedIn}
+use Rattle.figure.specs.Account.{Event, refused, read, wrote, published, refreshed, updated, dropped, logged, log, Item, Book, flat, unpublished, account}
+use Rattle.figure.specs.declared.Sizes.{Sizes}
+use Rattle.lists.specs.Bytes.{rows}
+use Rattle.lists.proofs.Rows.{length-rows}
+use Rattle.demands.specs.Lines.{lineWidth, noNumber, lineBytes, slotLines, accountBytes}
+use Rattle.demands.specs.Run.{isRefused, acceptedIn, refusedIn}
 
 -- no event is logged twice
 pub log-most : (t : ℕ) (es : List Event) → length (log t es) ≤ length es
@@ -45,3 +49,18 @@ all-counted (r ∷ rs) = at (isRefused r) (all-counted rs)
     at : (t : Bool) → acceptedIn rs + refusedIn rs ≡ length rs → pick t (acceptedIn rs) (suc (acceptedIn rs)) + pick t (suc (refusedIn rs)) (refusedIn rs) ≡ suc (length rs)
     at true h = omega arith
     at false h = omega arith
+
+-- the account's bytes: 12 a line
+pub length-line-bytes : (k : ℕ) (x : Item) → length (lineBytes k x) ≡ lineWidth
+length-line-bytes k x = refl
+
+length-slots : (k : ℕ) (ss : List (List Item)) → length (slotLines k ss) ≡ lineWidth * length (flat ss)
+unfolding slotLines
+length-slots k [] = refl
+length-slots k (s ∷ ss) =
+    omega (arith, length-append (rows (lineBytes k) s) (slotLines (suc k) ss), length-rows (lineBytes k) lineWidth (length-line-bytes k) s, length-slots (suc k) ss, length-append s (flat ss))
+
+pub length-account : (z : Sizes) (b : Book) → length (accountBytes z b) ≡ lineWidth * length (account z b)
+length-account z b =
+    let us = unpublished (z .engines) (b .pending) in
+    omega (arith, length-append (slotLines 0 (b .slots)) (rows (lineBytes noNumber) us), length-slots 0 (b .slots), length-rows (lineBytes noNumber) lineWidth (length-line-bytes noNumber) us, length-append (flat (b .slots)) us)

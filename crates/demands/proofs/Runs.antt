@@ -24,8 +24,8 @@ use Rattle.shape.specs.View.{stepView, eventView}
 use Rattle.shape.proofs.Bridge.{fresh-agrees}
 use Rattle.shape.proofs.Kept.{fresh-sound, sizes-numbered}
 use Rattle.shape.proofs.Shaped.{fresh-shaped}
-use Rattle.history.proofs.Follows.{stepsBelow, Followed, follows}
-use Rattle.history.specs.Run.{runSizes, runFresh, runAction, runTrace, runBook}
+use Rattle.demands.proofs.Follows.{stepsBelow, Followed, follows}
+use Rattle.demands.specs.Run.{runSizes, runFresh, runAction, runTrace, runBook}
 
 -- the table of a list, as the figure's memory; its actions, as the figure's steps
 abbrev pub runMemory : List ℕ → ℕ → ℕ

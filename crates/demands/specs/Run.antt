@@ -19,8 +19,8 @@ use Rattle.shape.specs.Fresh.{freshOf}
 use Rattle.shape.specs.Turns.{storeAfter, traceAfter}
 use Rattle.shape.specs.View.{eventView}
 use Rattle.shape.specs.declared.Store.{Store}
-use Rattle.history.specs.Lines.{lineWidth, accountBytes}
-use Rattle.history.specs.declared.Counts.{Counts}
+use Rattle.demands.specs.Lines.{lineWidth, accountBytes}
+use Rattle.demands.specs.declared.Counts.{Counts}
 
 -- ---- of a list that the reader takes
 

@@ -1,0 +1,8 @@
+-- read Demands first
+pub mod Demands
+pub mod Listed
+pub mod Unique
+pub mod Lengths
+pub mod Follows
+pub mod Runs
+pub mod Alike

@@ -1,0 +1,9 @@
+// What a run answers. What the answer and the two lent buffers must be is in specs/; proofs/Demands.antt has the three demands, and is the first thing to read.
+// The number of the refusal and zeros, or 0 and the four counts.
+pub struct Counts {
+    pub number: u8,
+    pub accepted: usize,
+    pub refused: usize,
+    pub events: usize,
+    pub settled: usize,
+}

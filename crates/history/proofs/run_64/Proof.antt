@@ -1,0 +1,45 @@
+use Rattle.history.proofs.Answers.{scratch}
+use borrow.Author.Needs.{needs}
+use Rattle.history.proofs.run_64.Statement.{statement}
+use Rattle.history.proofs.run_64.Tie as tie
+
+slice-aggregate-run-in : tie.Need-slice-aggregate-run-in
+slice-aggregate-run-in c = search needs
+
+slice-aggregate-run-in-2 : tie.Need-slice-aggregate-run-in-2
+slice-aggregate-run-in-2 c = search needs
+
+slice-aggregate-run-in-3 : tie.Need-slice-aggregate-run-in-3
+slice-aggregate-run-in-3 c = search needs
+
+slice-aggregate-run-in-4 : tie.Need-slice-aggregate-run-in-4
+slice-aggregate-run-in-4 c = search needs
+
+slice-aggregate-run-in-5 : tie.Need-slice-aggregate-run-in-5
+slice-aggregate-run-in-5 c = search needs
+
+run-in-requires : tie.Need-run-in-requires
+run-in-requires c κs = let s = c .before .before .before .before .before .before .before .before .before .before in (s .pre .0, scratch 64 (s .args .l .actions) (s .pre .1))
+
+same-length : tie.Need-same-length
+same-length c = search needs
+
+same-length-2 : tie.Need-same-length-2
+same-length-2 c = search needs
+
+returns : tie.Need-returns
+returns c = search needs
+
+pub run-64-spec : {M : Type 1} → statement M
+run-64-spec =
+    tie.close
+    (tie.spec
+    slice-aggregate-run-in
+    slice-aggregate-run-in-2
+    slice-aggregate-run-in-3
+    slice-aggregate-run-in-4
+    slice-aggregate-run-in-5
+    run-in-requires
+    same-length
+    same-length-2
+    returns)
