@@ -38,7 +38,7 @@ use Rattle.shape.proofs.Bridge.{formed-accepts, formed-next, formed-tells}
 use Rattle.shape.proofs.Kept.{refused-keeps}
 use Rattle.shape.proofs.Numbers.{step-number, step-zero, zero-step, made-number, made-zeros}
 use Rattle.shape.proofs.Shaped.{Shaped}
-use Rattle.demands.proofs.Alike.{length-trace}
+use Rattle.demands.proofs.Alike.{length-trace, trace-alike}
 use Rattle.demands.proofs.Follows.{stepsBelow, Followed}
 use Rattle.demands.proofs.Lengths.{length-account, all-counted}
 use Rattle.demands.proofs.Listed.{Listed, listed-account}
@@ -231,3 +231,25 @@ module _ {list trace account′ : List ℕ} {r : Counts} {trace″ account″ : 
         stays = settled-stays list reader-took;
         begins = settled-begins list reader-took;
       }
+
+-- the same of two lists of which one begins the other: equal sizes and memory, and the actions of the shorter are the first of the longer
+pub record Shorter (list longer : List ℕ) : Type 0 where
+  pub sizes : runSizes list ≡ runSizes longer
+  pub memory : memoryOf list ≡ memoryOf longer
+  pub fewer : readOf list .actions ≤ readOf longer .actions
+  pub same : (k : ℕ) → k < readOf list .actions → runAction list k ≡ runAction longer k
+
+module _ {list longer : List ℕ} (s : Shorter list longer) where
+  shorter-book : runBook list ≡ bookAfter longer (readOf list .actions)
+  unfolding runBook runTrace
+  shorter-book =
+      rw (s .sizes, s .memory)
+      (ap (λ (rs : List Record). book 0 (map eventView rs) blank) (trace-alike (runFresh longer) (runAction list) (runAction longer) (readOf list .actions) (s .same)))
+
+  pub shorter-stays : readOf longer .number ≡ 0 → Begins (settled (runSizes list) (runBook list)) (settled (runSizes longer) (runBook longer))
+  unfolding runBook runTrace
+  shorter-stays ok = rw (shorter-book, s .sizes) (settled-stays longer ok (readOf list .actions) (readOf longer .actions) (s .fewer))
+
+  pub shorter-begins : readOf longer .number ≡ 0 → Begins (settled (runSizes list) (runBook list)) (account (runSizes longer) (runBook longer))
+  unfolding runBook runTrace
+  shorter-begins ok = rw (shorter-book, s .sizes) (settled-begins longer ok (readOf list .actions) (readOf longer .actions) (s .fewer))

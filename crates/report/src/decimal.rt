@@ -42,6 +42,10 @@ pub(crate) fn put_decimal(out: &mut [u8], at: usize, n: u64) -> usize
     requires { ⌜ Room at (decimal n) ⌝ }
     ensures { λ r. ⌜ Wrote (decimal n) (now (out .entry)) at r (now (out .exit)) ⌝ }
 {
+    if n < 10 {
+        put_byte(out, at, last_digit(n));
+        return at + 1;
+    }
     let count = count_digits(n);
     put_digits(out, at, n, count);
     at + count
