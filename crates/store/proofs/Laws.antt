@@ -64,19 +64,19 @@ module _ {A : Type 0} where
   leave-length (suc m) es p h = rw sub-one (left-length m es h)
 
   -- a loop that changes each of the first places by `f`
-  firsts-length : (f : A → A) (i : ℕ) (l : List A) → i ≤ length l → length (map f (take i l)) ≡ i
-  firsts-length f i l h = simp (length-map, length-take) (omega arith)
+  pub firsts-at : (f : A → A) (i : ℕ) (l : List A) (d : A) → getD (firsts i f l) i d ≡ getD l i d
+  firsts-at f zero l d = refl
+  firsts-at f (suc i) [] d = refl
+  firsts-at f (suc i) (x ∷ l) d = firsts-at f i l d
 
-  pub firsts-at : (f : A → A) (i : ℕ) (l : List A) (d : A) → i < length l → getD (firsts i f l) i d ≡ getD l i d
-  firsts-at f i l d h =
-      ap (λ (y : List A). getD (map f (take i l) ++ y) i d) (drop-cons l i d h) ∙ getD-at (map f (take i l)) (getD l i d) (drop (suc i) l) d i (firsts-length f i l (omega arith))
+  firsts-next : (f : A → A) (i : ℕ) (l : List A) (d : A) → set (firsts i f l) i (f (getD (firsts i f l) i d)) ≡ firsts (suc i) f l
+  firsts-next f zero [] d = refl
+  firsts-next f zero (x ∷ l) d = refl
+  firsts-next f (suc i) [] d = refl
+  firsts-next f (suc i) (x ∷ l) d = ap (λ (t : List A). f x ∷ t) (firsts-next f i l d)
 
-  pub firsts-more : (f : A → A) (i : ℕ) (l : List A) (d : A) → i < length l → set (firsts i f l) i (f (getD (firsts i f l) i d)) ≡ firsts (i + 1) f l
-  firsts-more f i l d h =
-      ap (λ (x : A). set (firsts i f l) i (f x)) (firsts-at f i l d h)
-      ∙ ap (λ (y : List A). set (map f (take i l) ++ y) i (f (getD l i d))) (drop-cons l i d h)
-      ∙ set-at (map f (take i l)) _ _ _ i (firsts-length f i l (omega arith))
-      ∙ rw (add-one, take-suc l i d h, map-end, append-assoc)
+  pub firsts-more : (f : A → A) (i : ℕ) (l : List A) (d : A) → set (firsts i f l) i (f (getD (firsts i f l) i d)) ≡ firsts (i + 1) f l
+  firsts-more f i l d = rw (add-one i) (firsts-next f i l d)
 
   -- one place changed by `f`, as the code changes it
   pub change-set : (i : ℕ) (f : A → A) (l : List A) (d : A) → set l i (f (getD l i d)) ≡ change i f l

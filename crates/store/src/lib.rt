@@ -202,7 +202,15 @@ fn sound_turns(s: Store, actions: &[u8], trace: &mut [u8]) -> Store
                 if w.said.number == 0 {
                     let at = w.said.event.address.0 as usize;
                     memory[at] = w.said.event.data;
-                    ins = parts::all_join(ins, z.engines, turn::told_entry(x, w.said));
+                    let e = turn::told_entry(x, w.said);
+                    let m = z.engines as usize;
+                    let mut j = 0;
+                    while j < m {
+                        let q = ins[j];
+                        let p = parts::in_join(q, e);
+                        ins[j] = p;
+                        j += 1;
+                    }
                 }
                 w.said
             }

@@ -127,23 +127,6 @@ pub(crate) fn some_full(ins: [InQueue; 8], n: u8, depth: u8) -> bool
     false
 }
 
-// The entry joins the in queues of the engines 1 to n, all of which have room.
-pub(crate) fn all_join(ins: [InQueue; 8], n: u8, x: InEntry) -> [InQueue; 8]
-    requires { ⌜ (n ≤ 8) × ((k : ℕ) → k < n → getD ins k noIn .len < 32) ⌝ }
-    ensures { λ r. ⌜ r ≡ firsts n (inJoined x) ins ⌝ }
-{
-    let m = n as usize;
-    let mut r = ins;
-    let mut k: usize = 0;
-    while k < m {
-        let q = r[k];
-        let p = in_join(q, x);
-        r[k] = p;
-        k += 1;
-    }
-    r
-}
-
 fn sound_out(q: OutQueue, z: Sizes) -> bool
     requires { ⌜ z .depth ≤ 32 ⌝ }
     ensures { λ r. ⌜ r ≡ soundOut z q ⌝ }
