@@ -1,4 +1,6 @@
 // A buffer before it is lent: a byte at each place that tells whether the place was written.
+use stream::told;
+
 fn pattern(at: usize) -> u8 {
     ((at % 256 + 165) % 256) as u8
 }
@@ -21,4 +23,12 @@ pub(crate) fn is_untouched(b: &[u8], from: usize) -> bool {
         i += 1;
     }
     true
+}
+
+pub(crate) fn tell_untouched(is_untouched: bool) {
+    if is_untouched {
+        told::text(b" untouched");
+    } else {
+        told::text(b" TOUCHED");
+    }
 }

@@ -1,7 +1,11 @@
 // What the writer is handed before the first list: each of its refusals, their order, and the outputs that are just long enough.
 use crate::lent;
-use crate::told;
 use figure::Sizes;
+use lists::reader::MOST_LIST;
+use stream::front::front;
+use stream::front::front_words;
+use stream::room::MOST_TRACE;
+use stream::told;
 
 const COUNT: usize = 30;
 
@@ -44,9 +48,9 @@ const ROWS: [Row; COUNT] = [
 // Room for the largest table, the most actions and the longest output of a row.
 const TABLE_ROOM: usize = 65;
 
-const ACTIONS_ROOM: usize = 16393;
+const ACTIONS_ROOM: usize = MOST_TRACE + 9;
 
-const OUTPUT_ROOM: usize = 16648;
+const OUTPUT_ROOM: usize = MOST_LIST;
 
 fn tell_row(row: Row) {
     told::text(b"write");
@@ -65,8 +69,8 @@ fn write_row(sizes: Sizes, table: &[u32], actions: &[u8], out: &mut [u8]) {
     told::text(b" is");
     told::byte(w.number);
     told::number(w.length);
-    told::untouched(lent::is_untouched(out, w.length));
-    told::hash(out, w.length);
+    lent::tell_untouched(lent::is_untouched(out, w.length));
+    told::hash_front(out, w.length);
     told::text(b"\n");
 }
 
@@ -77,19 +81,10 @@ fn take_row(row: Row, table: &[u32], actions: &[u8], out: &mut [u8]) {
         addresses: row.1,
         depth: row.2,
     };
-    let m = row.3;
-    let n = row.4;
-    let room = row.5;
+    let m = front_words(table, row.3);
+    let n = front(actions, row.4);
+    let room = front(out, row.5);
     tell_row(row);
-    if table.len() < m {
-        return;
-    }
-    if actions.len() < n {
-        return;
-    }
-    if out.len() < room {
-        return;
-    }
     write_row(sizes, &table[..m], &actions[..n], &mut out[..room]);
 }
 

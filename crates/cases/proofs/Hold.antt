@@ -1,6 +1,6 @@
 -- B1 to B9 hold: one test that the checker computes over the table, and one law that turns it into the statement. Assumes nothing.
 use mathlib.Core.Bool.{Bool, true, false, _&&_, false≢true}
-use mathlib.Core.List.{List, [], _∷_, _++_, map}
+use mathlib.Core.List.{List, [], _∷_, map}
 use mathlib.Core.Path.{_≡_, refl, ap}
 use Prim.Native.Nat.{ℕ}
 use borrow.Author.Tests.{eqb-true}
@@ -11,16 +11,17 @@ use Rattle.figure.specs.declared.Record.{Record}
 use Rattle.demands.specs.Lines.{accountBytes, slotLines}
 use Rattle.demands.specs.Run.{runSizes, runTrace, runBook, runRefused, countsAs, acceptedIn, refusedIn}
 use Rattle.demands.specs.declared.Counts.{Counts}
-use Rattle.lists.specs.Bytes.{rows, each, u32At, u32Bytes}
+use Rattle.lists.specs.Bytes.{rows, u32At}
+use Rattle.lists.specs.Codec.{thingsAt}
 use Rattle.lists.specs.Read.{readOf, readRefused, layoutOf, memoryOf, actionsOf, listBytes, bodyOf}
-use Rattle.lists.specs.Record.{recordBytes}
+use Rattle.lists.specs.Line.{lineBytes}
 use Rattle.shape.specs.Fresh.{freshOf}
 use Rattle.shape.specs.Parts.{all}
 use Rattle.shape.specs.Sound.{soundOf}
 use Rattle.shape.specs.Step.{stepped, stepRefused, formRefused, turnRefused}
 use Rattle.shape.specs.Turns.{storeAfter, traceAfter}
 use Rattle.figure.proofs.Laws.{and-left, and-right}
-use Rattle.cases.specs.Case.{Case, rec, Holds, Turn, Line, listOf, runNumberOf, storeOf, outsOf, countsOf}
+use Rattle.cases.specs.Case.{Case, rec, Holds, Turn, listOf, runNumberOf, storeOf, outsOf, countsOf}
 use Rattle.cases.specs.Cases.{B1, cases}
 
 -- ---- tests of equality, each with its law
@@ -84,9 +85,6 @@ counts-are r q e =
 
 -- ---- the test of a case, and its law
 
-abbrev lineRow : Line → List ℕ
-lineRow l = recordBytes (l .event) ++ u32Bytes (l .number)
-
 abbrev tracedOf : Turn → Record
 tracedOf t = t .traced
 
@@ -94,7 +92,7 @@ abbrev holds? : Case → Bool
 holds? c =
     eqb (runNumberOf c) 0
     && (sameList sameRecord (runTrace (listOf c)) (map tracedOf (c .turns))
-    && (sameNumbers (accountBytes (runSizes (listOf c)) (runBook (listOf c))) (rows lineRow (c .lines))
+    && (sameNumbers (accountBytes (runSizes (listOf c)) (runBook (listOf c))) (rows lineBytes (c .lines))
     && (sameCounts (countsAs 0 (listOf c)) (countsOf c)
     && (sameNumbers (take (c .sizes .addresses) (storeOf c .memory)) (c .memory-after)
     && sameList sameNumbers (outsOf (storeOf c)) (c .outs-after)))))
@@ -103,13 +101,13 @@ holds : (c : Case) → holds? c ≡ true → Holds c
 holds c e =
     let e1 = and-right (eqb (runNumberOf c) 0) _ e in
     let e2 = and-right (sameList sameRecord (runTrace (listOf c)) (map tracedOf (c .turns))) _ e1 in
-    let e3 = and-right (sameNumbers (accountBytes (runSizes (listOf c)) (runBook (listOf c))) (rows lineRow (c .lines))) _ e2 in
+    let e3 = and-right (sameNumbers (accountBytes (runSizes (listOf c)) (runBook (listOf c))) (rows lineBytes (c .lines))) _ e2 in
     let e4 = and-right (sameCounts (countsAs 0 (listOf c)) (countsOf c)) _ e3 in
     let m = sameNumbers (take (c .sizes .addresses) (storeOf c .memory)) (c .memory-after) in
     record {
       number = eqb-true _ _ (and-left (eqb (runNumberOf c) 0) _ e);
       trace = list-is sameRecord record-is _ _ (and-left (sameList sameRecord (runTrace (listOf c)) (map tracedOf (c .turns))) _ e1);
-      account = numbers-are _ _ (and-left (sameNumbers (accountBytes (runSizes (listOf c)) (runBook (listOf c))) (rows lineRow (c .lines))) _ e2);
+      account = numbers-are _ _ (and-left (sameNumbers (accountBytes (runSizes (listOf c)) (runBook (listOf c))) (rows lineBytes (c .lines))) _ e2);
       counts = counts-are _ _ (and-left (sameCounts (countsAs 0 (listOf c)) (countsOf c)) _ e3);
       memory = numbers-are _ _ (and-left m _ e4);
       outs = list-is sameNumbers numbers-are _ _ (and-right m _ e4);
@@ -126,7 +124,7 @@ every [] e = tt
 every (c ∷ cs) e = (holds c (and-left (holds? c) _ e), every cs (and-right (holds? c) _ e))
 
 computed : all holds? cases ≡ true
-unfolding runRefused runTrace runBook acceptedIn refusedIn slotLines rows each u32At readOf readRefused layoutOf memoryOf actionsOf listBytes bodyOf sizesRefused freshOf soundOf stepped stepRefused formRefused turnRefused storeAfter traceAfter
+unfolding runRefused runTrace runBook acceptedIn refusedIn slotLines rows thingsAt u32At readOf readRefused layoutOf memoryOf actionsOf listBytes bodyOf sizesRefused freshOf soundOf stepped stepRefused formRefused turnRefused storeAfter traceAfter
 computed = refl
 
 -- "B1 to B9 are proved as one statement over one table of cases."

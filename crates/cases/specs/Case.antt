@@ -1,15 +1,17 @@
 -- A worked case: a list, and what document 01 says of its run. Assumes nothing.
-use mathlib.Core.List.{List, [], _∷_, _++_, map}
+use mathlib.Core.List.{List, [], _∷_, map}
 use mathlib.Core.Path.{_≡_}
 use Prim.Native.Nat.{ℕ, _*_}
 use lib.ListN.{length, take}
 use Rattle.figure.specs.Refusals.{firstOf}
 use Rattle.figure.specs.declared.Record.{Record}
 use Rattle.figure.specs.declared.Sizes.{Sizes}
-use Rattle.demands.specs.Lines.{lineWidth, accountBytes, noNumber}
+use Rattle.demands.specs.Lines.{accountBytes}
 use Rattle.demands.specs.Run.{runSizes, runFresh, runAction, runTrace, runBook, runRefused, countsAs}
 use Rattle.demands.specs.declared.Counts.{Counts}
-use Rattle.lists.specs.Bytes.{rows, u32Bytes}
+use Rattle.lists.specs.Bytes.{rows}
+use Rattle.lists.specs.Line.{lineWidth, lineBytes, noNumber}
+use Rattle.lists.specs.declared.line.Line.{Line}
 use Rattle.lists.specs.Read.{listBytes}
 use Rattle.lists.specs.Record.{recordWidth, recordBytes}
 use Rattle.shape.specs.Parts.{outOf}
@@ -71,12 +73,8 @@ infix 69 _is_
 -- ---- the case
 
 -- a printed line of the account: slot or write number or `-`, R or W, engine, address, data
-pub record Line : Type 0 where
-  pub number : ℕ
-  pub event : Record
-
 abbrev pub line : ℕ → Record → Line
-line n e = record { number = n; event = e }
+line n e = record { event = e; number = record { 0 = n } }
 
 abbrev pub «-» : ℕ
 «-» = noNumber
@@ -120,7 +118,7 @@ runNumberOf c = firstOf (runRefused (listOf c) (recordWidth * length (c .turns))
 pub record Holds (c : Case) : Type 0 where
   pub number : runNumberOf c ≡ 0
   pub trace : runTrace (listOf c) ≡ map (λ (t : Turn). t .traced) (c .turns)
-  pub account : accountBytes (runSizes (listOf c)) (runBook (listOf c)) ≡ rows (λ (l : Line). recordBytes (l .event) ++ u32Bytes (l .number)) (c .lines)
+  pub account : accountBytes (runSizes (listOf c)) (runBook (listOf c)) ≡ rows lineBytes (c .lines)
   pub counts : countsAs 0 (listOf c) ≡ countsOf c
   pub memory : take (c .sizes .addresses) (storeOf c .memory) ≡ c .memory-after
   pub outs : outsOf (storeOf c) ≡ c .outs-after

@@ -1,49 +1,50 @@
 -- The three demands, one after another, in their own words, each with what proves it. Read this first. Assumes nothing.
-use mathlib.Core.Bool.{Bool, true, false}
-use mathlib.Core.List.{List, [], _∷_, _++_, map, append-assoc, append-nil, Perm}
-use mathlib.Core.Path.{_≡_, refl, sym, ap, subst, _∙_}
+use mathlib.Core.Bool.{true, false}
+use mathlib.Core.List.{List, [], _++_, map, map-append, Perm}
+use mathlib.Core.Path.{_≡_, refl, sym, ap, _∙_}
 use Prim.Native.Nat.{ℕ, zero, suc, _+_, _-_, _*_, _≤_, _<_}
-use native.Mathlib.Nat.{zero-add, suc-add}
 use native.Mathlib.Omega.{arith}
 use lib.Dec.{eqb}
-use borrow.Author.Tests.{eqb-true, eqb-false}
-use lib.ListN.{length, getD, take, List·getD-append}
-use lib.Seq.{take-at, getD-at}
-use Rattle.figure.specs.Account.{Event, refused, event, Item, Book, blank, book, log, account, settled}
+use lib.ListN.{length, getD, take}
+use lib.Seq.{take-at}
+use Rattle.figure.specs.Account.{Event, refused, event, Book, blank, book, log, account, settled}
+use Rattle.figure.specs.Event.{eventView}
 use Rattle.figure.specs.Demand.{Serial, serial?, own, Rises, Begins, bookOf, Right}
 use Rattle.figure.specs.Figure.{Step, fresh, accepted, next, engine?}
 use Rattle.figure.specs.Record.{noRecord}
-use Rattle.figure.specs.Refusals.{pick, firstOf}
+use Rattle.figure.specs.Refusals.{pick, firstOf, unless}
 use Rattle.figure.specs.declared.Record.{Record}
 use Rattle.figure.specs.declared.Sizes.{Sizes}
-use Rattle.figure.proofs.First.{Numbered, NoneApplies, first-none, none-first}
+use Rattle.figure.proofs.First.{Numbered, NoneApplies, first-none, none-first, numbered-append, none-split}
 use Rattle.figure.proofs.Respects.{Agrees}
+use Rattle.figure.proofs.Machines.{below, below-append}
 use Rattle.figure.proofs.Step.{serial-test}
 use Rattle.figure.proofs.Theorem.{right}
 use Rattle.lists.specs.Bytes.{Bytes, rows, laid}
 use Rattle.lists.specs.Read.{readRefused, readOf, memoryOf, actionsOf, actionBytesOf}
 use Rattle.lists.specs.Record.{recordWidth, recordBytes}
-use Rattle.lists.specs.Write.{writeRefused, unless, Wrote}
+use Rattle.lists.specs.Line.{lineWidth}
+use Rattle.lists.specs.Write.{writeRefused, Wrote}
 use Rattle.lists.specs.declared.writer.Written.{Written}
-use Rattle.lists.proofs.RoundTrip.{Holds, reads-back, Rewritten, writes-back}
-use Rattle.lists.proofs.Sized.{numbered-append, none-split, read-number, read-numbered}
+use Rattle.lists.proofs.RoundTrip.{ListHolds, reads-back, Rewritten, writes-back}
+use Rattle.lists.proofs.Sized.{read-number, read-numbered}
 use Rattle.shape.specs.Fresh.{freshOf, freshRefused, made, zeros}
 use Rattle.shape.specs.Sound.{soundOf}
 use Rattle.shape.specs.Step.{formRefused, stepRefused, actionOf, stepped}
 use Rattle.shape.specs.Trace.{traced}
 use Rattle.shape.specs.Turns.{storeAfter, traceAfter}
-use Rattle.shape.specs.View.{view, eventView}
+use Rattle.shape.specs.View.{view, stepView}
 use Rattle.shape.specs.declared.Store.{Store}
 use Rattle.shape.proofs.Bridge.{formed-accepts, formed-next, formed-tells}
 use Rattle.shape.proofs.Kept.{refused-keeps}
-use Rattle.shape.proofs.Numbers.{step-number, step-zero, zero-step, made-number, made-zeros}
+use Rattle.shape.proofs.Numbers.{step-number, step-zero, made-number, made-zeros}
 use Rattle.shape.proofs.Shaped.{Shaped}
-use Rattle.demands.proofs.Alike.{length-trace, trace-alike}
-use Rattle.demands.proofs.Follows.{stepsBelow, Followed}
+use Rattle.shape.proofs.Trails.{trace-at, trace-alike}
+use Rattle.demands.proofs.Follows.{stepsBelow}
 use Rattle.demands.proofs.Lengths.{length-account, all-counted}
 use Rattle.demands.proofs.Listed.{Listed, listed-account}
 use Rattle.demands.proofs.Runs.{runMemory, runSteps, followed, run-events, run-book}
-use Rattle.demands.specs.Lines.{lineWidth, accountBytes}
+use Rattle.demands.specs.Lines.{accountBytes}
 use Rattle.demands.specs.Run.{runSizes, runFresh, runAction, runTrace, runBook, ownRefused, runRefused, runNumber, countsAs, Ran}
 use Rattle.demands.specs.declared.Counts.{Counts}
 
@@ -68,7 +69,7 @@ module _ {list trace account : List ℕ} {r : Counts} {trace′ account′ : Lis
   unfolding laid unless
   refused-run n = at (runNumber list trace account) (sym run-number) (h .counts) (h .trace-is) (h .account-is)
     where
-      at : (k : ℕ) → k ≡ r .number → r ≡ countsAs k list → trace′ ≡ laid (unless k (rows recordBytes (runTrace list))) trace → account′ ≡ laid (unless k (accountBytes (runSizes list) (runBook list))) account
+      at : (k : ℕ) → k ≡ r .number → r ≡ countsAs k list → trace′ ≡ laid (unless k (rows recordBytes (runTrace list)) []) trace → account′ ≡ laid (unless k (accountBytes (runSizes list) (runBook list)) []) account
           → Untouched r trace account trace′ account′
       at zero e c p q = absurd (n (sym e))
       at (suc k) e c p q = record { counts = c ∙ rw e; trace-stays = p; account-stays = q }
@@ -113,25 +114,12 @@ unfolding runNumber
 run-refuses h = run-number h
 
 -- "and the run takes each action in turn as that step does"
-trace-at : (s : Store) (x : ℕ → Record) (n k : ℕ) → k < n → getD (traceAfter s x n) k noRecord ≡ traced (stepped (storeAfter s x k) (x k))
-unfolding traceAfter
-trace-at s x zero k h = absurd (omega arith)
-trace-at s x (suc n) k h = at (eqb k n) refl (trace-at s x n k)
-  where
-    at : (t : Bool) → eqb k n ≡ t → (k < n → getD (traceAfter s x n) k noRecord ≡ traced (stepped (storeAfter s x k) (x k)))
-        → getD (traceAfter s x n ++ (traced (stepped (storeAfter s x n) (x n)) ∷ [])) k noRecord ≡ traced (stepped (storeAfter s x k) (x k))
-    at true e f = let q : k ≡ n = eqb-true k n e in rw (q) (getD-at (traceAfter s x n) (traced (stepped (storeAfter s x n) (x n))) [] noRecord n (length-trace s x n))
-    at false e f =
-        let q : ¬ (k ≡ n) = eqb-false k n e in
-        let l : k < n = omega arith in
-        List·getD-append (traceAfter s x n) _ noRecord k (omega (arith, length-trace s x n)) ∙ f l
-
 pub in-turn : (list : List ℕ) (k : ℕ) → k < readOf list .actions → getD (runTrace list) k noRecord ≡ traced (stepped (storeAfter (runFresh list) (runAction list) k) (runAction list k))
 unfolding runTrace
-in-turn list = trace-at (runFresh list) (runAction list) (readOf list .actions)
+in-turn list k = trace-at (runFresh list) (runAction list) (readOf list .actions) k noRecord
 
 -- "Lists round-trip, both ways, to the byte."
-pub written-reads-back : {z : Sizes} {memory actions out : List ℕ} {r : Written} {out′ : List ℕ} → Wrote z memory actions out r out′ → r .number ≡ 0 → Holds (take (r .length) out′) z memory actions
+pub written-reads-back : {z : Sizes} {memory actions out : List ℕ} {r : Written} {out′ : List ℕ} → Wrote z memory actions out r out′ → r .number ≡ 0 → ListHolds (take (r .length) out′) z memory actions
 written-reads-back h = reads-back h
 
 pub read-writes-back : (s : List ℕ) → Bytes s → readOf s .number ≡ 0 → {out : List ℕ} {r : Written} {out′ : List ℕ} → length s ≤ length out → Wrote (readOf s .sizes) (memoryOf s) (actionBytesOf s) out r out′ → Rewritten s out r out′
@@ -177,8 +165,7 @@ module _ (list : List ℕ) (ok : readOf list .number ≡ 0) where
   book-after k = ap (λ (es : List Event). book 0 es blank) (followed list ok k .events)
 
   more-steps : (j d : ℕ) → stepsBelow z (runAction list) (d + j) ≡ stepsBelow z (runAction list) j ++ stepsBelow z (λ i. runAction list (i + j)) d
-  more-steps j zero = rw (zero-add, append-nil)
-  more-steps j (suc d) = rw (suc-add, more-steps j d) (append-assoc (stepsBelow z (runAction list) j) _ _)
+  more-steps j d = rw (below-append (runAction list) j d) (map-append (stepView z) (below (runAction list) j) (below (λ i. runAction list (i + j)) d))
 
   later : (j k : ℕ) → j ≤ k → k ≡ (k - j) + j
   later j k h = omega arith

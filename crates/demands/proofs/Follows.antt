@@ -1,25 +1,26 @@
 -- The store's steps follow Figure 2's: one trace, and states that agree after every action. Assumes nothing.
 use mathlib.Core.Bool.{Bool, true, false}
-use mathlib.Core.List.{List, [], _∷_, _++_, map}
-use mathlib.Core.Path.{_≡_, refl, sym, ap, subst, _∙_}
-use Prim.Native.Nat.{ℕ, zero, suc}
-use Rattle.figure.specs.Account.{Event, refused, event, trace}
+use mathlib.Core.List.{List, map}
+use mathlib.Core.Path.{_≡_, refl, sym, subst, _∙_}
+use Prim.Native.Nat.{ℕ}
+use Rattle.figure.specs.Account.{refused, event, happened, trace}
+use Rattle.figure.specs.Event.{eventView}
 use Rattle.figure.specs.Figure.{State, Step, accepted, next, step, after}
 use Rattle.figure.specs.Refusals.{pick}
 use Rattle.figure.specs.declared.Record.{Record}
 use Rattle.figure.specs.declared.Sizes.{Sizes}
 use Rattle.figure.proofs.Respects.{Agrees, agrees-trans, accepted-agrees, next-agrees, event-agrees}
-use Rattle.figure.proofs.Run.{after-append, trace-append}
+use Rattle.figure.proofs.Machines.{below}
+use Rattle.figure.proofs.Run.{after-runs, trace-tape}
+use Rattle.figure.proofs.Simulates.{simulates-each}
 use Rattle.shape.specs.Sound.{soundOf}
-use Rattle.shape.specs.Step.{stepped}
-use Rattle.shape.specs.Trace.{traced}
 use Rattle.shape.specs.Turns.{storeAfter, traceAfter}
-use Rattle.shape.specs.View.{view, stepView, eventView}
+use Rattle.shape.specs.View.{view, stepView}
 use Rattle.shape.specs.declared.Store.{Store}
 use Rattle.shape.proofs.Bridge.{steps, tells}
 use Rattle.shape.proofs.Kept.{keeps-sound, keeps-sizes}
-use Rattle.shape.proofs.Places.{map-end}
 use Rattle.shape.proofs.Shaped.{Shaped, keeps-shaped}
+use Rattle.shape.proofs.Trails.{next-store, next-record, store-trail, trace-trail}
 
 -- ---- two states that agree take a step alike
 
@@ -31,55 +32,59 @@ module _ (z : Sizes) (s r : State) (h : Agrees z s r) (x : Step) where
       at true u e f = rw (f ∙ e) (next-agrees z s r h x e)
       at false u e f = rw (f ∙ e) h
 
-  told-agrees : pick (accepted z s x) (event s x) refused ≡ pick (accepted z r x) (event r x) refused
-  told-agrees = at (accepted z s x) (accepted z r x) refl (sym (accepted-agrees z s r h x))
+  happened-agrees : happened z s x ≡ happened z r x
+  happened-agrees = at (accepted z s x) (accepted z r x) refl (sym (accepted-agrees z s r h x))
     where
       at : (t u : Bool) → accepted z s x ≡ t → u ≡ accepted z s x → pick t (event s x) refused ≡ pick u (event r x) refused
       at true u e f = rw (f ∙ e) (event-agrees z s r h x e)
       at false u e f = rw (f ∙ e) refl
 
+-- ---- a store beside a state
+
+module _ (z : Sizes) where
+  pub record Beside (s : Store) (r : State) : Type 0 where
+    pub sizes : s .sizes ≡ z
+    pub sound : soundOf s ≡ true
+    pub shaped : Shaped s
+    pub state : Agrees z (view s) r
+
+  module _ (s : Store) (r : State) (b : Beside s r) (x : Record) where
+    beside-state : Agrees z (view (next-store s x)) (step z r (stepView z x))
+    beside-state =
+        agrees-trans z
+        (subst (λ (z : Sizes). Agrees z (view (next-store s x)) (step z (view s) (stepView z x))) (b .sizes) (steps s (b .sound) (b .shaped) x))
+        (step-agrees z (view s) r (b .state) (stepView z x))
+
+    beside-event : eventView (next-record s x) ≡ happened z r (stepView z x)
+    beside-event =
+        subst (λ (z : Sizes). eventView (next-record s x) ≡ happened z (view s) (stepView z x)) (b .sizes) (tells s (b .sound) (b .shaped) x)
+        ∙ happened-agrees z (view s) r (b .state) (stepView z x)
+
+    beside-more : Beside (next-store s x) (step z r (stepView z x)) × (eventView (next-record s x) ≡ happened z r (stepView z x))
+    beside-more = (
+      record {
+        sizes = keeps-sizes s x ∙ b .sizes;
+        sound = keeps-sound s x (b .sound);
+        shaped = keeps-shaped s x (b .shaped);
+        state = beside-state;
+      },
+      beside-event,
+    )
+
 -- ---- the first n actions
 
-module _ (z : Sizes) (x : ℕ → Record) where
-  abbrev pub stepsBelow : ℕ → List Step
-  stepsBelow zero = []
-  stepsBelow (suc n) = stepsBelow n ++ (stepView z (x n) ∷ [])
+abbrev pub stepsBelow : Sizes → (ℕ → Record) → ℕ → List Step
+stepsBelow z x n = map (stepView z) (below x n)
 
-module _ (s : Store) (r : State) (x : ℕ → Record) where
-  pub record Followed (n : ℕ) : Type 0 where
-    pub sizes : storeAfter s x n .sizes ≡ s .sizes
-    pub sound : soundOf (storeAfter s x n) ≡ true
-    pub shaped : Shaped (storeAfter s x n)
-    pub state : Agrees (s .sizes) (view (storeAfter s x n)) (after (s .sizes) r (stepsBelow (s .sizes) x n))
-    pub events : map eventView (traceAfter s x n) ≡ trace (s .sizes) r (stepsBelow (s .sizes) x n)
+pub record Followed (s : Store) (r : State) (x : ℕ → Record) (n : ℕ) : Type 0 where
+  pub beside : Beside (s .sizes) (storeAfter s x n) (after (s .sizes) r (stepsBelow (s .sizes) x n))
+  pub events : map eventView (traceAfter s x n) ≡ trace (s .sizes) r (stepsBelow (s .sizes) x n)
 
-  -- one action more, from the store t that agrees with the state u
-  more-state : (t : Store) (u : State) (y : Record) → t .sizes ≡ s .sizes → soundOf t ≡ true → Shaped t → Agrees (s .sizes) (view t) u
-      → Agrees (s .sizes) (view (stepped t y .store)) (step (s .sizes) u (stepView (s .sizes) y))
-  more-state t u y e h k a =
-      let b : Agrees (s .sizes) (view (stepped t y .store)) (step (s .sizes) (view t) (stepView (s .sizes) y)) = subst (λ (z : Sizes). Agrees z (view (stepped t y .store)) (step z (view t) (stepView z y))) e (steps t h k y) in
-      agrees-trans (s .sizes) b (step-agrees (s .sizes) (view t) u a (stepView (s .sizes) y))
-
-  more-event : (t : Store) (u : State) (y : Record) → t .sizes ≡ s .sizes → soundOf t ≡ true → Shaped t → Agrees (s .sizes) (view t) u
-      → eventView (traced (stepped t y)) ≡ pick (accepted (s .sizes) u (stepView (s .sizes) y)) (event u (stepView (s .sizes) y)) refused
-  more-event t u y e h k a =
-      subst (λ (z : Sizes). eventView (traced (stepped t y)) ≡ pick (accepted z (view t) (stepView z y)) (event (view t) (stepView z y)) refused) e (tells t h k y)
-      ∙ told-agrees (s .sizes) (view t) u a (stepView (s .sizes) y)
-
-  pub follows : soundOf s ≡ true → Shaped s → Agrees (s .sizes) (view s) r → (n : ℕ) → Followed n
-  unfolding storeAfter traceAfter
-  follows h k a zero = record { sizes = refl; sound = h; shaped = k; state = a; events = refl }
-  follows h k a (suc n) =
-      let f = follows h k a n in
-      let t = storeAfter s x n in
-      let z = s .sizes in
-      let u = after z r (stepsBelow z x n) in
-      record {
-        sizes = keeps-sizes t (x n) ∙ f .sizes;
-        sound = keeps-sound t (x n) (f .sound);
-        shaped = keeps-shaped t (x n) (f .shaped);
-        state = rw (after-append z r (stepsBelow z x n) (stepView z (x n) ∷ [])) (more-state t u (x n) (f .sizes) (f .sound) (f .shaped) (f .state));
-        events =
-            map-end eventView (traceAfter s x n) (traced (stepped t (x n)))
-            ∙ rw (f .events, more-event t u (x n) (f .sizes) (f .sound) (f .shaped) (f .state), trace-append z r (stepsBelow z x n) (stepView z (x n) ∷ [])) refl;
-      }
+pub follows : (s : Store) (r : State) (x : ℕ → Record) → soundOf s ≡ true → Shaped s → Agrees (s .sizes) (view s) r → (n : ℕ) → Followed s r x n
+follows s r x h k a n =
+    let z = s .sizes in
+    let m = simulates-each next-store next-record (step z) (happened z) (stepView z) eventView (Beside z) (λ s r x b. beside-more z s r b x) s r (below x n) (record { sizes = refl; sound = h; shaped = k; state = a }) in
+    record {
+      beside = rw (store-trail s x n, after-runs z r (stepsBelow z x n)) (m .0);
+      events = rw (trace-trail s x n, trace-tape z r (stepsBelow z x n)) (m .1);
+    }

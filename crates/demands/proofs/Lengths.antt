@@ -13,7 +13,9 @@ use Rattle.figure.specs.Account.{Event, refused, read, wrote, published, refres
 use Rattle.figure.specs.declared.Sizes.{Sizes}
 use Rattle.lists.specs.Bytes.{rows}
 use Rattle.lists.proofs.Rows.{length-rows}
-use Rattle.demands.specs.Lines.{lineWidth, noNumber, lineBytes, slotLines, accountBytes}
+use Rattle.lists.specs.Line.{lineWidth, noNumber}
+use Rattle.lists.proofs.Codecs.{line-lawful}
+use Rattle.demands.specs.Lines.{itemLine, itemBytes, slotLines, accountBytes}
 use Rattle.demands.specs.Run.{isRefused, acceptedIn, refusedIn}
 
 -- no event is logged twice
@@ -51,16 +53,16 @@ all-counted (r ∷ rs) = at (isRefused r) (all-counted rs)
     at false h = omega arith
 
 -- the account's bytes: 12 a line
-pub length-line-bytes : (k : ℕ) (x : Item) → length (lineBytes k x) ≡ lineWidth
-length-line-bytes k x = refl
+pub length-item : (k : ℕ) (x : Item) → length (itemBytes k x) ≡ lineWidth
+length-item k x = line-lawful .wide (itemLine k x)
 
-length-slots : (k : ℕ) (ss : List (List Item)) → length (slotLines k ss) ≡ lineWidth * length (flat ss)
+pub length-slots : (k : ℕ) (ss : List (List Item)) → length (slotLines k ss) ≡ lineWidth * length (flat ss)
 unfolding slotLines
 length-slots k [] = refl
 length-slots k (s ∷ ss) =
-    omega (arith, length-append (rows (lineBytes k) s) (slotLines (suc k) ss), length-rows (lineBytes k) lineWidth (length-line-bytes k) s, length-slots (suc k) ss, length-append s (flat ss))
+    omega (arith, length-append (rows (itemBytes k) s) (slotLines (suc k) ss), length-rows (itemBytes k) lineWidth (length-item k) s, length-slots (suc k) ss, length-append s (flat ss))
 
 pub length-account : (z : Sizes) (b : Book) → length (accountBytes z b) ≡ lineWidth * length (account z b)
 length-account z b =
     let us = unpublished (z .engines) (b .pending) in
-    omega (arith, length-append (slotLines 0 (b .slots)) (rows (lineBytes noNumber) us), length-slots 0 (b .slots), length-rows (lineBytes noNumber) lineWidth (length-line-bytes noNumber) us, length-append (flat (b .slots)) us)
+    omega (arith, length-append (slotLines 0 (b .slots)) (rows (itemBytes noNumber) us), length-slots 0 (b .slots), length-rows (itemBytes noNumber) lineWidth (length-item noNumber) us, length-append (flat (b .slots)) us)

@@ -5,4 +5,3 @@ pub mod Unique
 pub mod Lengths
 pub mod Follows
 pub mod Runs
-pub mod Alike

@@ -6,20 +6,20 @@ use Prim.Native.Nat.{ℕ, zero, suc, _+_, _*_}
 use lib.Dec.{eqb, ltb}
 use lib.ListN.{length, getD}
 use Rattle.figure.specs.Account.{Event, Book, blank, book, account, settled}
+use Rattle.figure.specs.Event.{eventView}
 use Rattle.figure.specs.Demand.{serial?}
 use Rattle.figure.specs.Record.{noRecord}
-use Rattle.figure.specs.Refusals.{Refusal, _when_, pick, firstOf}
+use Rattle.figure.specs.Refusals.{Refusal, _when_, pick, firstOf, unless}
 use Rattle.figure.specs.declared.Record.{Record}
 use Rattle.figure.specs.declared.Sizes.{Sizes}
 use Rattle.lists.specs.Bytes.{rows, laid}
 use Rattle.lists.specs.Read.{readRefused, readOf, memoryOf, actionsOf}
 use Rattle.lists.specs.Record.{recordWidth, recordBytes}
-use Rattle.lists.specs.Write.{unless}
+use Rattle.lists.specs.Line.{lineWidth}
 use Rattle.shape.specs.Fresh.{freshOf}
 use Rattle.shape.specs.Turns.{storeAfter, traceAfter}
-use Rattle.shape.specs.View.{eventView}
 use Rattle.shape.specs.declared.Store.{Store}
-use Rattle.demands.specs.Lines.{lineWidth, accountBytes}
+use Rattle.demands.specs.Lines.{accountBytes}
 use Rattle.demands.specs.declared.Counts.{Counts}
 
 -- ---- of a list that the reader takes
@@ -88,5 +88,5 @@ runNumber list trace account = firstOf (runRefused list (length trace) (length a
 
 pub record Ran (list trace account : List ℕ) (r : Counts) (trace′ account′ : List ℕ) : Type 0 where
   pub counts : r ≡ countsAs (runNumber list trace account) list
-  pub trace-is : trace′ ≡ laid (unless (runNumber list trace account) (rows recordBytes (runTrace list))) trace
-  pub account-is : account′ ≡ laid (unless (runNumber list trace account) (accountBytes (runSizes list) (runBook list))) account
+  pub trace-is : trace′ ≡ laid (unless (runNumber list trace account) (rows recordBytes (runTrace list)) []) trace
+  pub account-is : account′ ≡ laid (unless (runNumber list trace account) (accountBytes (runSizes list) (runBook list)) []) account

@@ -6,7 +6,8 @@ use Prim.Native.Nat.{ℕ, zero, suc}
 use native.Mathlib.Omega.{arith}
 use lib.Dec.{eqb}
 use borrow.Author.Tests.{eq-eqb, ne-eqb}
-use Rattle.figure.specs.Refusals.{Refusal, pick, firstOf}
+use Rattle.figure.specs.Refusals.{Refusal, pick, firstOf, sizesRefused}
+use Rattle.figure.specs.declared.Sizes.{Sizes}
 
 -- the first k refusals do not apply; the test of the refusal at place k, and its number
 abbrev pub Passed : ℕ → List Refusal → Type 0
@@ -57,7 +58,26 @@ none-first (r ∷ rs) n h = at (r .applies) refl h (none-first rs (n .1))
     at true e h k = absurd (n .0 h)
     at false e h k = (e, k h)
 
--- two lists of refusals, one after the other
+pub sizes-numbered : (z : Sizes) → Numbered (sizesRefused z)
+unfolding sizesRefused
+sizes-numbered z = (λ e. omega arith, (λ e. omega arith, (λ e. omega arith, tt)))
+
+-- ---- two lists of refusals, one after the other
+
+pub numbered-append : (rs qs : List Refusal) → Numbered rs → Numbered qs → Numbered (rs ++ qs)
+numbered-append [] qs h k = k
+numbered-append (r ∷ rs) qs h k = (h .0, numbered-append rs qs (h .1) k)
+
+pub none-append : (rs qs : List Refusal) → NoneApplies rs → NoneApplies qs → NoneApplies (rs ++ qs)
+none-append [] qs h k = k
+none-append (r ∷ rs) qs h k = (h .0, none-append rs qs (h .1) k)
+
+pub none-split : (rs qs : List Refusal) → NoneApplies (rs ++ qs) → NoneApplies rs × NoneApplies qs
+none-split [] qs h = (tt, h)
+none-split (r ∷ rs) qs h =
+    let k = none-split rs qs (h .1) in
+    ((h .0, k .0), k .1)
+
 pub first-append : (rs qs : List Refusal) → firstOf rs ≡ 0 → Numbered rs → firstOf (rs ++ qs) ≡ firstOf qs
 first-append [] qs h n = refl
 first-append (r ∷ rs) qs h n =

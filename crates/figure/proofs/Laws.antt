@@ -1,12 +1,13 @@
 -- Laws of `upd`, of the slots, and of the memory that a list of items leaves. Assumes nothing.
-use Prim.Native.Nat.{ℕ}
-use mathlib.Core.Path.{_≡_, refl, sym}
+use Prim.Native.Nat.{ℕ, zero, suc}
+use mathlib.Core.Path.{_≡_, refl, sym, ap}
 use mathlib.Core.Bool.{Bool, true, false, _&&_, false≢true}
 use mathlib.Core.List.{List, [], _∷_, _++_, append-assoc}
 use lib.Dec.{eqb}
+use lib.ListN.{length}
 use borrow.Author.Tests.{eqb-true, eqb-false}
 use Rattle.figure.specs.Figure.{upd}
-use Rattle.figure.specs.Account.{Item, reading, writing, flat}
+use Rattle.figure.specs.Account.{Item, reading, writing, put, flat}
 use Rattle.figure.specs.Demand.{Serial}
 
 pub and-left : (a b : Bool) → a && b ≡ true → a ≡ true
@@ -44,6 +45,11 @@ each P i = upd-one (λ j (k : ℕ). P j) (λ j. j) i i
 pub flat-append : (ss ts : List (List Item)) → flat (ss ++ ts) ≡ flat ss ++ flat ts
 flat-append [] ts = refl
 flat-append (s ∷ ss) ts = rw (flat-append ss ts) (sym (append-assoc s (flat ss) (flat ts)))
+
+pub length-put : (x : Item) (k : ℕ) (ss : List (List Item)) → length (put k x ss) ≡ length ss
+length-put x k [] = refl
+length-put x zero (s ∷ ss) = refl
+length-put x (suc k) (s ∷ ss) = ap suc (length-put x k ss)
 
 -- ---- the memory that items leave
 

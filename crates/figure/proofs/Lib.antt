@@ -1,5 +1,7 @@
 pub mod First
 pub mod Laws
+pub mod Machines
+pub mod Simulates
 pub mod Run
 pub mod Serial
 pub mod Own
@@ -10,3 +12,6 @@ pub mod Respects
 pub mod Step
 pub mod Worked
 pub mod Slips
+pub mod Told
+pub mod Entries
+pub mod Published

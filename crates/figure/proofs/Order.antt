@@ -118,7 +118,7 @@ past-new o a d (suc T) j (s ∷ ss) q h = past-new o a d T j ss q h
 
 -- l: the log so far
 pub record Order (s : State) (b : Book) (l : List Item) : Type 0 where
-  pub past : (i : ℕ) → Past (b .taken i) i (b .slots) (s .engine i .ins)
+  pub past : (i : ℕ) → Past (b .ledger .taken i) i (b .slots) (s .engine i .ins)
   pub same : (i : ℕ) → own i (flat (b .slots)) ++ b .pending i ≡ own i l
 
 order-fresh : (mem : ℕ → ℕ) → Order (fresh mem) blank []
@@ -133,19 +133,19 @@ module _ (s : State) (b : Book) (l : List Item) (h : Order s b l) where
   on-read t i a d p e =
       let r = reading t i a d in
       record {
-        past = each (λ j. Past (b .taken j) j (put (b .taken i) r (b .slots)) (s .engine j .ins)) i
-            (past-put-mine r (b .taken i) i (b .slots) _ (h .past i))
-            (λ j n. past-put-other r (b .taken j) j (b .taken i) (b .slots) _ (λ q. n (sym q)) (h .past j));
-        same = each (λ j. own j (flat (put (b .taken i) r (b .slots))) ++ b .pending j ≡ own j (l ++ (r ∷ []))) i
-            (simp (snoc-mine r i l refl, own-put-mine r i (b .taken i) (b .slots) (s .engine i .ins) refl (h .past i) e, ← (h .same i), p, append-nil))
-            (λ j n. rw (own-put-other r j (b .taken i) (b .slots) (λ q. n (sym q)), snoc-other r j l (λ q. n (sym q))) (h .same j));
+        past = each (λ j. Past (b .ledger .taken j) j (put (b .ledger .taken i) r (b .slots)) (s .engine j .ins)) i
+            (past-put-mine r (b .ledger .taken i) i (b .slots) _ (h .past i))
+            (λ j n. past-put-other r (b .ledger .taken j) j (b .ledger .taken i) (b .slots) _ (λ q. n (sym q)) (h .past j));
+        same = each (λ j. own j (flat (put (b .ledger .taken i) r (b .slots))) ++ b .pending j ≡ own j (l ++ (r ∷ []))) i
+            (simp (snoc-mine r i l refl, own-put-mine r i (b .ledger .taken i) (b .slots) (s .engine i .ins) refl (h .past i) e, ← (h .same i), p, append-nil))
+            (λ j n. rw (own-put-other r j (b .ledger .taken i) (b .slots) (λ q. n (sym q)), snoc-other r j l (λ q. n (sym q))) (h .same j));
       }
 
   on-write : (t i a d : ℕ) → Order (next s (W i a d)) (note t (wrote i a d) b) (l ++ logged t (wrote i a d))
   on-write t i a d =
       let w = writing t i a d in
       record {
-        past = upd-one (λ j (e : Engine). Past (b .taken j) j (b .slots) (e .ins)) (s .engine) i _ (h .past i) (λ j _. h .past j);
+        past = upd-one (λ j (e : Engine). Past (b .ledger .taken j) j (b .slots) (e .ins)) (s .engine) i _ (h .past i) (λ j _. h .past j);
         same = upd-one (λ j (p : List Item). own j (flat (b .slots)) ++ p ≡ own j (l ++ (w ∷ []))) (b .pending) i _
             (simp (snoc-mine w i l refl, ← (h .same i), append-assoc)) (λ j n. rw (snoc-other w j l (λ q. n (sym q))) (h .same j));
       }
@@ -158,24 +158,24 @@ module _ (s : State) (b : Book) (l : List Item) (h : Order s b l) where
       let g : own (suc i) (flat (b .slots)) ++ (w ∷ p′) ≡ own (suc i) l = rw y at (h .same (suc i)) in
       rw (append-nil l, y)
       record {
-        past = upd-one (λ j (e : Engine). Past (b .taken j) j (b .slots ++ ((w ∷ []) ∷ [])) (e .ins ++ (up (suc i) a d ∷ []))) (s .engine) (suc i) _
-            (past-snoc t i a d (b .taken (suc i)) (suc i) (b .slots) _ (h .past (suc i))) (λ j _. past-snoc t i a d (b .taken j) j (b .slots) _ (h .past j));
+        past = upd-one (λ j (e : Engine). Past (b .ledger .taken j) j (b .slots ++ ((w ∷ []) ∷ [])) (e .ins ++ (up (suc i) a d ∷ []))) (s .engine) (suc i) _
+            (past-snoc t i a d (b .ledger .taken (suc i)) (suc i) (b .slots) _ (h .past (suc i))) (λ j _. past-snoc t i a d (b .ledger .taken j) j (b .slots) _ (h .past j));
         same = upd-one (λ j (x : List Item). own j (flat (b .slots ++ ((w ∷ []) ∷ []))) ++ x ≡ own j l) (b .pending) (suc i) p′
             (simp (slot-append, snoc-mine w (suc i) (flat (b .slots)) refl, append-assoc) g) (λ j n. rw (slot-append, snoc-other w j (flat (b .slots)) (λ q. n (sym q))) (h .same j));
       }
 
   -- the cache and the in queue of engine i change
-  at-engine : (i : ℕ) (e : Engine) → Past (b .taken i) i (b .slots) (e .ins) → Order (record { memory = s .memory; engine = upd (s .engine) i e }) b l
-  at-engine i e v = record { past = upd-one (λ j (e : Engine). Past (b .taken j) j (b .slots) (e .ins)) (s .engine) i e v (λ j _. h .past j); same = h .same }
+  at-engine : (i : ℕ) (e : Engine) → Past (b .ledger .taken i) i (b .slots) (e .ins) → Order (record { memory = s .memory; engine = upd (s .engine) i e }) b l
+  at-engine i e v = record { past = upd-one (λ j (e : Engine). Past (b .ledger .taken j) j (b .slots) (e .ins)) (s .engine) i e v (λ j _. h .past j); same = h .same }
 
   on-update : (t i : ℕ) (q : List In) → s .engine i .ins ≡ q → Order (update s i q) (note t (head-in i q) b) (l ++ logged t (head-in i q))
   on-update t i [] e = rw (append-nil l) h
-  on-update t i (up zero a d ∷ q) e = rw (append-nil l) (at-engine i _ (past-old a d (b .taken i) i (b .slots) q (rw e at (h .past i))))
+  on-update t i (up zero a d ∷ q) e = rw (append-nil l) (at-engine i _ (past-old a d (b .ledger .taken i) i (b .slots) q (rw e at (h .past i))))
   on-update t i (up (suc o) a d ∷ q) e =
       rw (append-nil l)
       record {
-        past = upd-each (λ j T (e : Engine). Past T j (b .slots) (e .ins)) (b .taken) (s .engine) i _ _
-            (past-new o a d (b .taken i) i (b .slots) q (rw e at (h .past i))) (λ j _. h .past j);
+        past = upd-each (λ j T (e : Engine). Past T j (b .slots) (e .ins)) (b .ledger .taken) (s .engine) i _ _
+            (past-new o a d (b .ledger .taken i) i (b .slots) q (rw e at (h .past i))) (λ j _. h .past j);
         same = h .same;
       }
 
@@ -187,7 +187,7 @@ module _ (s : State) (b : Book) (l : List Item) (h : Order s b l) where
   order-next z t (W i a d) k e = on-write t i a d
   order-next z t (MW zero) k e = absurd (false≢true e)
   order-next z t (MW (suc i)) k e = on-publish t i (b .pending (suc i)) (s .engine (suc i) .outs) refl (k (suc i))
-  order-next z t (MR i a) k e = rw (append-nil l) (at-engine i _ (past-filler a (s .memory a) (b .taken i) i (b .slots) _ (h .past i)))
+  order-next z t (MR i a) k e = rw (append-nil l) (at-engine i _ (past-filler a (s .memory a) (b .ledger .taken i) i (b .slots) _ (h .past i)))
   order-next z t (CU i) k e = on-update t i (s .engine i .ins) refl
   order-next z t (CI i a) k e = rw (append-nil l) (at-engine i _ (h .past i))
 

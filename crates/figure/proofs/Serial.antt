@@ -147,7 +147,7 @@ module _ (mem : ℕ → ℕ) where
   pub record Inv (s : State) (b : Book) : Type 0 where
     pub serial : Serial mem (flat (b .slots))
     pub memory : s .memory ≡ leave mem (flat (b .slots))
-    pub view : (i : ℕ) → View (b .taken i) mem (b .slots) (s .engine i .cache) (s .engine i .ins)
+    pub view : (i : ℕ) → View (b .ledger .taken i) mem (b .slots) (s .engine i .cache) (s .engine i .ins)
     pub linked : (i : ℕ) → Linked i (b .pending i) (s .engine i .outs)
 
   pub inv-fresh : Inv (fresh mem) blank
@@ -158,9 +158,9 @@ module _ (mem : ℕ → ℕ) where
     on-read t i a y =
         let c = s .engine i .cache in
         record {
-          serial = serial-put t i a (held (c a)) (b .taken i) mem (b .slots) c (s .engine i .ins) (h .view i) (held-some (c a) y) (h .serial);
-          memory = h .memory ∙ sym (leave-put t i a (held (c a)) (b .taken i) mem (b .slots));
-          view = λ j. view-put t i a (held (c a)) (b .taken j) (b .taken i) mem (b .slots) (s .engine j .cache) (s .engine j .ins) (h .view j);
+          serial = serial-put t i a (held (c a)) (b .ledger .taken i) mem (b .slots) c (s .engine i .ins) (h .view i) (held-some (c a) y) (h .serial);
+          memory = h .memory ∙ sym (leave-put t i a (held (c a)) (b .ledger .taken i) mem (b .slots));
+          view = λ j. view-put t i a (held (c a)) (b .ledger .taken j) (b .ledger .taken i) mem (b .slots) (s .engine j .cache) (s .engine j .ins) (h .view j);
           linked = h .linked;
         }
 
@@ -169,7 +169,7 @@ module _ (mem : ℕ → ℕ) where
         record {
           serial = h .serial;
           memory = h .memory;
-          view = upd-one (λ j (e : Engine). View (b .taken j) mem (b .slots) (e .cache) (e .ins)) (s .engine) i _ (h .view i) (λ j _. h .view j);
+          view = upd-one (λ j (e : Engine). View (b .ledger .taken j) mem (b .slots) (e .cache) (e .ins)) (s .engine) i _ (h .view i) (λ j _. h .view j);
           linked = upd-each (λ j (p : List Item) (e : Engine). Linked j p (e .outs)) (b .pending) (s .engine) i _ _ (linked-snoc t a d (h .linked i)) (λ j _. h .linked j);
         }
 
@@ -180,39 +180,39 @@ module _ (mem : ℕ → ℕ) where
         record {
           serial = rw flat-append (serial-join mem (flat (b .slots)) _ (h .serial) tt);
           memory = rw (flat-append, leave-append, ← (h .memory)) refl;
-          view = upd-one (λ j (e : Engine). View (b .taken j) mem (b .slots ++ ((writing t (suc i) a d ∷ []) ∷ [])) (e .cache) (e .ins ++ (up (suc i) a d ∷ []))) (s .engine) (suc i) _
-              (view-snoc t i a d (b .taken (suc i)) mem (b .slots) _ _ (h .view (suc i))) (λ j _. view-snoc t i a d (b .taken j) mem (b .slots) _ _ (h .view j));
+          view = upd-one (λ j (e : Engine). View (b .ledger .taken j) mem (b .slots ++ ((writing t (suc i) a d ∷ []) ∷ [])) (e .cache) (e .ins ++ (up (suc i) a d ∷ []))) (s .engine) (suc i) _
+              (view-snoc t i a d (b .ledger .taken (suc i)) mem (b .slots) _ _ (h .view (suc i))) (λ j _. view-snoc t i a d (b .ledger .taken j) mem (b .slots) _ _ (h .view j));
           linked = upd-each (λ j (x : List Item) (e : Engine). Linked j x (e .outs)) (b .pending) (s .engine) (suc i) p′ _ l (λ j _. h .linked j);
         }
 
     -- the cache and the in queue of engine i change
-    at-engine : (i : ℕ) (c : ℕ → Option ℕ) (q : List In) → View (b .taken i) mem (b .slots) c q
+    at-engine : (i : ℕ) (c : ℕ → Option ℕ) (q : List In) → View (b .ledger .taken i) mem (b .slots) c q
         → Inv (record { memory = s .memory; engine = upd (s .engine) i (record { cache = c; outs = s .engine i .outs; ins = q }) }) b
     at-engine i c q v =
         record {
           serial = h .serial;
           memory = h .memory;
-          view = upd-one (λ j (e : Engine). View (b .taken j) mem (b .slots) (e .cache) (e .ins)) (s .engine) i _ v (λ j _. h .view j);
+          view = upd-one (λ j (e : Engine). View (b .ledger .taken j) mem (b .slots) (e .cache) (e .ins)) (s .engine) i _ v (λ j _. h .view j);
           linked = upd-one (λ j (e : Engine). Linked j (b .pending j) (e .outs)) (s .engine) i _ (h .linked i) (λ j _. h .linked j);
         }
 
     on-fill : (i a : ℕ) → Inv (next s (MR i a)) b
-    on-fill i a = at-engine i _ _ (rw (h .memory) (view-filler a (b .taken i) mem (b .slots) _ _ (h .view i)))
+    on-fill i a = at-engine i _ _ (rw (h .memory) (view-filler a (b .ledger .taken i) mem (b .slots) _ _ (h .view i)))
 
     on-update : (t i : ℕ) (q : List In) → s .engine i .ins ≡ q → Inv (update s i q) (note t (head-in i q) b)
     on-update t i [] e = h
-    on-update t i (up zero a d ∷ q) e = at-engine i _ q (view-old a d (b .taken i) mem (b .slots) _ q (rw e at (h .view i)))
+    on-update t i (up zero a d ∷ q) e = at-engine i _ q (view-old a d (b .ledger .taken i) mem (b .slots) _ q (rw e at (h .view i)))
     on-update t i (up (suc o) a d ∷ q) e =
         record {
           serial = h .serial;
           memory = h .memory;
-          view = upd-each (λ j T (e : Engine). View T mem (b .slots) (e .cache) (e .ins)) (b .taken) (s .engine) i _ _
-              (view-new a d o (b .taken i) mem (b .slots) _ q (rw e at (h .view i))) (λ j _. h .view j);
+          view = upd-each (λ j T (e : Engine). View T mem (b .slots) (e .cache) (e .ins)) (b .ledger .taken) (s .engine) i _ _
+              (view-new a d o (b .ledger .taken i) mem (b .slots) _ q (rw e at (h .view i))) (λ j _. h .view j);
           linked = upd-one (λ j (e : Engine). Linked j (b .pending j) (e .outs)) (s .engine) i _ (h .linked i) (λ j _. h .linked j);
         }
 
     on-drop : (i a : ℕ) → Inv (next s (CI i a)) b
-    on-drop i a = at-engine i _ _ (view-drop a (b .taken i) mem (b .slots) _ _ (h .view i))
+    on-drop i a = at-engine i _ _ (view-drop a (b .ledger .taken i) mem (b .slots) _ _ (h .view i))
 
     pub inv-next : (z : Sizes) (t : ℕ) (x : Step) → accepted z s x ≡ true → Inv (next s x) (note t (event s x) b)
     inv-next z t (R i a) e = on-read t i a (and-left (present (s .engine i .cache a)) _ (and-left (allowed s (R i a)) _ (and-right (named z (R i a)) _ e)))

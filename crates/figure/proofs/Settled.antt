@@ -10,7 +10,7 @@ use lib.ListN.{take, drop, take-append-drop}
 use borrow.Author.Tests.{leb-true, leb-false}
 use Rattle.figure.specs.declared.Sizes.{Sizes}
 use Rattle.figure.specs.Figure.{Out, wr, In, up, State, Step, R, W, MW, MR, CU, CI, engine?, named, accepted}
-use Rattle.figure.specs.Account.{head-out, head-in, event, trace, Item, reading, Book, put, open-slot, take-one, note, book, flat, account, unpublished, floor, lowest, settled}
+use Rattle.figure.specs.Account.{updated, head-out, head-in, event, trace, Item, reading, Book, put, open-slot, note, book, flat, account, unpublished, floor, lowest, settled}
 use Rattle.figure.specs.Demand.{Begins}
 use Rattle.figure.proofs.Laws.{and-left, and-right, upd-one, flat-append}
 use Rattle.figure.proofs.Run.{run-keeps}
@@ -72,15 +72,15 @@ opened : (z : Sizes) (b : Book) (i : ℕ) (p : List Item) → Begins (settled z 
 opened z b i [] = begins-refl _
 opened z b i (w ∷ p) = begins-snoc (suc (lowest (z .engines) (floor b))) (b .slots) ((w ∷ []) ∷ [])
 
-one-taken : (z : Sizes) (b : Book) (i o : ℕ) → Begins (settled z b) (settled z (take-one b i o))
-one-taken z b i zero = begins-refl _
-one-taken z b i (suc o) =
-    begins-more _ _ (b .slots) (suc-le-suc (lowest-mono (z .engines) _ _ (upd-one (λ j T. b .taken j ≤ T) (b .taken) i _ (omega arith) (λ j _. le-refl _))))
+one-taken : (z : Sizes) (t : ℕ) (b : Book) (i o a d : ℕ) → Begins (settled z b) (settled z (note t (updated i o a d) b))
+one-taken z t b i zero a d = begins-refl _
+one-taken z t b i (suc o) a d =
+    begins-more _ _ (b .slots) (suc-le-suc (lowest-mono (z .engines) _ _ (upd-one (λ j T. b .ledger .taken j ≤ T) (b .ledger .taken) i _ (omega arith) (λ j _. le-refl _))))
 
 step-settled : (z : Sizes) (t : ℕ) (s : State) (b : Book) (x : Step) → accepted z s x ≡ true → Begins (settled z b) (settled z (note t (event s x) b))
 step-settled z t s b (R i a) e =
     let y = and-left (engine? z i) _ (and-left (named z (R i a)) _ e) in
-    begins-put (lowest (z .engines) (floor b)) (b .taken i) (reading t i a _) (b .slots)
+    begins-put (lowest (z .engines) (floor b)) (b .ledger .taken i) (reading t i a _) (b .slots)
     (lowest-le (z .engines) (floor b) i (leb-true 1 i (and-left (leb 1 i) _ y)) (leb-true i (z .engines) (and-right (leb 1 i) _ y)))
 step-settled z t s b (W i a d) e = begins-refl _
 step-settled z t s b (MW i) e = at (s .engine i .outs)
@@ -93,7 +93,7 @@ step-settled z t s b (CU i) e = at (s .engine i .ins)
   where
     at : (q : List In) → Begins (settled z b) (settled z (note t (head-in i q) b))
     at [] = begins-refl _
-    at (up o a d ∷ q) = one-taken z b i o
+    at (up o a d ∷ q) = one-taken z t b i o a d
 step-settled z t s b (CI i a) e = begins-refl _
 
 -- at every later moment what was settled begins what is settled, and the account

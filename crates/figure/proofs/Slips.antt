@@ -1,15 +1,18 @@
 -- Document 01's "Slips we have made or nearly made": rules with one slip each, and a list whose account shows it. Assumes nothing.
 use Prim.Native.Nat.{ℕ, suc}
 use native.Mathlib.Omega.{arith}
-use mathlib.Core.Path.{_≡_, refl, sym, _∙_}
+use mathlib.Core.Path.{_≡_, refl, sym, ap, _∙_}
 use mathlib.Core.Bool.{Bool, false, _&&_}
 use mathlib.Core.Option.{some}
 use mathlib.Core.List.{List, [], _∷_}
 use Rattle.figure.specs.declared.Sizes.{Sizes}
 use Rattle.figure.specs.Refusals.{pick}
 use Rattle.figure.specs.Figure.{upd, Out, wr, up, State, Step, R, W, MW, MR, CU, CI, fresh, empty, present, named, accepted, join-in, next}
-use Rattle.figure.specs.Account.{Event, refused, read, wrote, published, refreshed, updated, dropped, event, trace, Item, reading, writing, log, Book, blank, take-one, note, book, account}
+use Rattle.figure.specs.Account.{Event, refused, read, wrote, published, refreshed, updated, dropped, event, Item, reading, writing, log, Book, blank, note, book, account}
 use Rattle.figure.specs.Demand.{serial?, own, logOf, bookOf}
+use Rattle.figure.proofs.Machines.{runs, tape}
+use Rattle.figure.proofs.Run.{trace-tape}
+use Rattle.figure.proofs.Simulates.{alone}
 use Rattle.figure.proofs.Worked.{sizes1, zeros, list1, sizes4, threes, list4}
 
 -- ---- a run by given rules
@@ -23,12 +26,11 @@ abbrev pub figure : Rules
 figure = record { accepts = accepted; moves = next; notes = note }
 
 abbrev pub traceBy : Rules → Sizes → State → List Step → List Event
-traceBy g z s [] = []
-traceBy g z s (x ∷ xs) = pick (g .accepts z s x) (event s x) refused ∷ traceBy g z (pick (g .accepts z s x) (g .moves s x) s) xs
+traceBy g z = tape (λ s x. pick (g .accepts z s x) (g .moves s x) s) (λ s x. pick (g .accepts z s x) (event s x) refused)
 
+-- beside the book: the number of the next action
 abbrev pub bookBy : Rules → ℕ → List Event → Book → Book
-bookBy g t [] b = b
-bookBy g t (e ∷ es) b = bookBy g (suc t) es (g .notes t e b)
+bookBy g t es b = runs (λ (k : ℕ × Book) e. (suc (k .0), g .notes (k .0) e (k .1))) (t, b) es .1
 
 abbrev pub logBy : Rules → Sizes → (ℕ → ℕ) → List Step → List Item
 logBy g z mem xs = log 0 (traceBy g z (fresh mem) xs)
@@ -37,19 +39,14 @@ abbrev pub accountBy : Rules → Sizes → (ℕ → ℕ) → List Step → List 
 accountBy g z mem xs = account z (bookBy g 0 (traceBy g z (fresh mem) xs) blank)
 
 -- by the rules of the figure it is the run of the figure
-trace-by : (z : Sizes) (s : State) (xs : List Step) → traceBy figure z s xs ≡ trace z s xs
-trace-by z s [] = refl
-trace-by z s (x ∷ xs) = rw (trace-by z (pick (accepted z s x) (next s x) s) xs)
-
 book-by : (t : ℕ) (es : List Event) (b : Book) → bookBy figure t es b ≡ book t es b
-book-by t [] b = refl
-book-by t (e ∷ es) b = book-by (suc t) es (note t e b)
+book-by t es b = alone (λ (k : ℕ × Book) e. (suc (k .0), note (k .0) e (k .1))) (λ k es. bookBy figure (k .0) es (k .1) ≡ book (k .0) es (k .1)) (λ k. refl) (λ k e es h. h) (t, b) es
 
 pub log-by : (z : Sizes) (mem : ℕ → ℕ) (xs : List Step) → logBy figure z mem xs ≡ logOf z mem xs
-log-by z mem xs = rw (trace-by z (fresh mem) xs)
+log-by z mem xs = rw (trace-tape z (fresh mem) xs)
 
 pub account-by : (z : Sizes) (mem : ℕ → ℕ) (xs : List Step) → accountBy figure z mem xs ≡ account z (bookOf z mem xs)
-account-by z mem xs = rw (trace-by z (fresh mem) xs, book-by 0 (trace z (fresh mem) xs) blank)
+account-by z mem xs = rw (trace-tape z (fresh mem) xs) (ap (account z) (book-by 0 (traceBy figure z (fresh mem) xs) blank))
 
 -- f at one kind of step, and g at the others
 module _ {A : Type 0} where
@@ -164,7 +161,7 @@ counted t (read i a d) b = note t (read i a d) b
 counted t (wrote i a d) b = note t (wrote i a d) b
 counted t (published i a d) b = note t (published i a d) b
 counted t (refreshed i a d) b = note t (refreshed i a d) b
-counted t (updated i o a d) b = take-one b i (suc o)
+counted t (updated i o a d) b = note t (updated i (suc o) a d) b
 counted t (dropped i a) b = note t (dropped i a) b
 
 abbrev pub counting : Rules

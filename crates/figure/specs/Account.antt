@@ -39,10 +39,13 @@ event s (MR i a) = refreshed i a (s .memory a)
 event s (CU i) = head-in i (s .engine i .ins)
 event s (CI i a) = dropped i a
 
--- what happened, action by action
+-- what happened, of one action, and action by action
+abbrev pub happened : Sizes → State → Step → Event
+happened z s x = pick (accepted z s x) (event s x) refused
+
 abbrev pub trace : Sizes → State → List Step → List Event
 trace z s [] = []
-trace z s (x ∷ xs) = pick (accepted z s x) (event s x) refused ∷ trace z (step z s x) xs
+trace z s (x ∷ xs) = happened z s x ∷ trace z (step z s x) xs
 
 -- ---- the log: the accepted reads and writes as they happened
 
@@ -64,18 +67,52 @@ abbrev pub log : ℕ → List Event → List Item
 log t [] = []
 log t (e ∷ es) = logged t e ++ log (suc t) es
 
+-- ---- the ledger: how far publishing and taking have come
+
+-- published: how many writes are published
+-- taken: how many writes each engine has removed from its in queue by CU
+-- own: the number of the last published write of each engine, 0 where it has none
+pub record Ledger : Type 0 where
+  pub published : ℕ
+  pub taken : ℕ → ℕ
+  pub own : ℕ → ℕ
+
+abbrev pub blank-ledger : Ledger
+blank-ledger = record { published = 0; taken = λ i. 0; own = λ i. 0 }
+
+-- "Each accepted MW publishes ..; these are write 1, 2, 3 and so on."
+abbrev pub publish-one : Ledger → ℕ → Ledger
+publish-one l i = record { published = suc (l .published); taken = l .taken; own = upd (l .own) i (suc (l .published)) }
+
+-- "An engine has taken as many as it has removed from its in queue by CU; entries of origin 0 are not counted."
+abbrev pub take-one : Ledger → ℕ → ℕ → Ledger
+take-one l i zero = l
+take-one l i (suc o) = record { published = l .published; taken = upd (l .taken) i (suc (l .taken i)); own = l .own }
+
+abbrev pub enter : Event → Ledger → Ledger
+enter refused l = l
+enter (read i a d) l = l
+enter (wrote i a d) l = l
+enter (published i a d) l = publish-one l i
+enter (refreshed i a d) l = l
+enter (updated i o a d) l = take-one l i o
+enter (dropped i a) l = l
+
+abbrev pub ledger : List Event → Ledger → Ledger
+ledger [] l = l
+ledger (e ∷ es) l = ledger es (enter e l)
+
 -- ---- the book: what the account is made of
 
 -- slots: slot 0 holds its reads, slot k holds write k and then its reads
--- taken: how many writes each engine has removed from its in queue by CU
 -- pending: the writes of each engine not yet published, oldest first
 pub record Book : Type 0 where
   pub slots : List (List Item)
-  pub taken : ℕ → ℕ
+  pub ledger : Ledger
   pub pending : ℕ → List Item
 
 abbrev pub blank : Book
-blank = record { slots = [] ∷ []; taken = λ i. 0; pending = λ i. [] }
+blank = record { slots = [] ∷ []; ledger = blank-ledger; pending = λ i. [] }
 
 -- the item joins slot k
 abbrev pub put : ℕ → Item → List (List Item) → List (List Item)
@@ -85,22 +122,17 @@ put (suc k) x (s ∷ ss) = s ∷ put k x ss
 
 -- "Each accepted MW publishes the oldest write of its engine not yet published": it opens the next slot
 abbrev pub open-slot : Book → ℕ → List Item → Book
-open-slot b i [] = b
-open-slot b i (x ∷ q) = record { slots = b .slots ++ ((x ∷ []) ∷ []); taken = b .taken; pending = upd (b .pending) i q }
-
--- "An engine has taken as many as it has removed from its in queue by CU; entries of origin 0 are not counted."
-abbrev pub take-one : Book → ℕ → ℕ → Book
-take-one b i zero = b
-take-one b i (suc o) = record { slots = b .slots; taken = upd (b .taken) i (suc (b .taken i)); pending = b .pending }
+open-slot b i [] = record { slots = b .slots; ledger = publish-one (b .ledger) i; pending = b .pending }
+open-slot b i (x ∷ q) = record { slots = b .slots ++ ((x ∷ []) ∷ []); ledger = publish-one (b .ledger) i; pending = upd (b .pending) i q }
 
 -- action t, and what happened; "A read belongs to the slot whose number its engine had taken at that moment."
 abbrev pub note : ℕ → Event → Book → Book
 note t refused b = b
-note t (read i a d) b = record { slots = put (b .taken i) (reading t i a d) (b .slots); taken = b .taken; pending = b .pending }
-note t (wrote i a d) b = record { slots = b .slots; taken = b .taken; pending = upd (b .pending) i (b .pending i ++ (writing t i a d ∷ [])) }
+note t (read i a d) b = record { slots = put (b .ledger .taken i) (reading t i a d) (b .slots); ledger = b .ledger; pending = b .pending }
+note t (wrote i a d) b = record { slots = b .slots; ledger = b .ledger; pending = upd (b .pending) i (b .pending i ++ (writing t i a d ∷ [])) }
 note t (published i a d) b = open-slot b i (b .pending i)
 note t (refreshed i a d) b = b
-note t (updated i o a d) b = take-one b i o
+note t (updated i o a d) b = record { slots = b .slots; ledger = take-one (b .ledger) i o; pending = b .pending }
 note t (dropped i a) b = b
 
 abbrev pub book : ℕ → List Event → Book → Book
@@ -124,7 +156,7 @@ account z b = flat (b .slots) ++ unpublished (z .engines) (b .pending)
 
 -- "An engine's floor is the number of writes it has taken, since its next read falls there."
 abbrev pub floor : Book → ℕ → ℕ
-floor b i = b .taken i
+floor b i = b .ledger .taken i
 
 -- the lowest of the engines 1 to n
 abbrev pub lowest : ℕ → (ℕ → ℕ) → ℕ

@@ -3,4 +3,6 @@ pub mod Refusals
 pub mod Record
 pub mod Figure
 pub mod Account
+pub mod Event
+pub mod Ledger
 pub mod Demand

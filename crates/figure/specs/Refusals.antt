@@ -1,5 +1,5 @@
 -- Refusals in order, and the sizes. Assumes nothing.
-use Prim.Native.Nat.{ℕ, _<_}
+use Prim.Native.Nat.{ℕ, zero, suc, _<_}
 use mathlib.Core.Bool.{Bool, true, false, _||_}
 use mathlib.Core.List.{List, [], _∷_}
 use lib.Dec.{ltb}
@@ -23,6 +23,11 @@ pick false a b = b
 abbrev pub firstOf : List Refusal → ℕ
 firstOf [] = 0
 firstOf (r ∷ rs) = pick (r .applies) (r .number) (firstOf rs)
+
+-- a where nothing is refused, and else b
+unfoldable pub unless : {A : Type 0} → ℕ → A → A → A
+unless zero a b = a
+unless (suc n) a b = b
 
 -- below lo or above hi
 abbrev pub outside : ℕ → ℕ → ℕ → Bool

@@ -1,12 +1,12 @@
 -- Every item of the account has an address below m. Assumes nothing.
-use mathlib.Core.Bool.{Bool, true, false}
-use mathlib.Core.List.{List, [], _∷_, _++_, append-nil}
-use mathlib.Core.Path.{_≡_, refl, sym}
+use mathlib.Core.Bool.{true}
+use mathlib.Core.List.{List, [], _∷_, _++_}
+use mathlib.Core.Path.{_≡_}
 use Prim.Native.Nat.{ℕ, zero, suc, _<_}
 use borrow.Author.Tests.{ltb-true}
-use Rattle.figure.specs.Account.{Item, reading, writing, Book, blank, put, open-slot, take-one, note, flat, unpublished, account, event, head-out, head-in}
+use Rattle.figure.specs.Account.{Item, reading, writing, Book, blank, put, open-slot, note, flat, unpublished, account, event, head-out, head-in}
 use Rattle.figure.specs.Demand.{bookOf}
-use Rattle.figure.specs.Figure.{upd, Out, wr, In, up, State, Step, R, W, MW, MR, CU, CI, fresh, engine?, address?, allowed, room, named, accepted, next}
+use Rattle.figure.specs.Figure.{upd, Out, wr, In, up, State, Step, R, W, MW, MR, CU, CI, fresh, engine?, named, next}
 use Rattle.figure.specs.declared.Sizes.{Sizes}
 use Rattle.figure.proofs.Laws.{upd-one, flat-append, and-left, and-right}
 use Rattle.figure.proofs.Run.{run-keeps}
@@ -32,16 +32,12 @@ pub record Lies (m : ℕ) (b : Book) : Type 0 where
 
 module _ (z : Sizes) (b : Book) (h : Lies (z .addresses) b) where
   lies-open : (i : ℕ) (p : List Item) → Below (z .addresses) p → Lies (z .addresses) (open-slot b i p)
-  lies-open i [] q = h
+  lies-open i [] q = record { slots = h .slots; pending = h .pending }
   lies-open i (x ∷ p) q =
       record {
         slots = rw (flat-append (b .slots) ((x ∷ []) ∷ [])) (below-append (z .addresses) (flat (b .slots)) (x ∷ []) (h .slots) (q .0, tt));
         pending = upd-one (λ j (l : List Item). Below (z .addresses) l) (b .pending) i p (q .1) (λ j _. h .pending j);
       }
-
-  lies-take : (i o : ℕ) → Lies (z .addresses) (take-one b i o)
-  lies-take i zero = h
-  lies-take i (suc o) = record { slots = h .slots; pending = h .pending }
 
   lies-out : (t i : ℕ) (q : List Out) → Lies (z .addresses) (note t (head-out i q) b)
   lies-out t i [] = h
@@ -49,10 +45,10 @@ module _ (z : Sizes) (b : Book) (h : Lies (z .addresses) b) where
 
   lies-in : (t i : ℕ) (q : List In) → Lies (z .addresses) (note t (head-in i q) b)
   lies-in t i [] = h
-  lies-in t i (up o a d ∷ q) = lies-take i o
+  lies-in t i (up o a d ∷ q) = record { slots = h .slots; pending = h .pending }
 
   lies-next : (t : ℕ) (s : State) (x : Step) → named z x ≡ true → Lies (z .addresses) (note t (event s x) b)
-  lies-next t s (R i a) e = record { slots = below-put (z .addresses) (b .taken i) (reading t i a _) (b .slots) (ltb-true a (z .addresses) (and-right (engine? z i) _ e)) (h .slots); pending = h .pending }
+  lies-next t s (R i a) e = record { slots = below-put (z .addresses) (b .ledger .taken i) (reading t i a _) (b .slots) (ltb-true a (z .addresses) (and-right (engine? z i) _ e)) (h .slots); pending = h .pending }
   lies-next t s (W i a d) e =
       record {
         slots = h .slots;

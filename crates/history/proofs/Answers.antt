@@ -1,34 +1,33 @@
 -- The run's answer, from what its parts leave. Assumes nothing.
 use mathlib.Core.Bool.{not}
-use mathlib.Core.List.{List, [], _∷_, _++_}
+use mathlib.Core.List.{List, [], _∷_}
 use mathlib.Core.Path.{_≡_, refl, sym, ap, _∙_}
 use Prim.Native.Nat.{ℕ, zero, suc, _+_, _*_, _≤_, _<_}
 use native.Mathlib.Omega.{arith}
 use borrow.Author.Tests.{lt-ltb, le-ltb}
 use lib.Dec.{ltb}
-use lib.ListN.{length, take, drop, replicate, length-append, length-replicate, getD-replicate}
-use lib.Seq.{take-at, length-take-le, getD-take}
+use lib.ListN.{length, take, drop, length-append}
+use lib.Seq.{take-at, length-take-le}
 use Rattle.figure.specs.Account.{Item, account as items}
 use Rattle.figure.specs.Demand.{serial?}
-use Rattle.figure.specs.Refusals.{_when_, firstOf, mostActions}
+use Rattle.figure.specs.Refusals.{_when_, firstOf, mostActions, unless}
 use Rattle.figure.proofs.First.{first-append, first-front}
 use Rattle.lists.specs.Bytes.{rows, put, laid}
 use Rattle.lists.specs.Read.{readRefused, readOf, memoryTable}
 use Rattle.lists.specs.Record.{recordWidth, recordBytes}
-use Rattle.lists.specs.Write.{unless}
 use Rattle.lists.specs.declared.reader.Layout.{Layout}
 use Rattle.lists.proofs.Put.{put-front, length-put}
 use Rattle.lists.proofs.Sized.{read-number, read-numbered, sized}
 use Rattle.shape.specs.Turns.{actionAt}
-use Rattle.shape.specs.declared.OutQueue.{OutQueue}
 use Rattle.history.proofs.Addresses.{below-account}
 use Rattle.demands.proofs.Lengths.{length-account}
-use Rattle.history.proofs.LineLaws.{below-wider, agrees-memory, serial-laid}
+use Rattle.history.proofs.LineLaws.{below-wider, tabled-memory, serial-laid}
 use Rattle.demands.proofs.Runs.{runMemory, runSteps, run-book}
 use Rattle.history.proofs.Traces.{run-bytes-long, traced-records}
-use Rattle.history.proofs.Whole.{account-bytes, events-are, events-most, outs-short, counts-are}
-use Rattle.demands.specs.Lines.{lineWidth, accountBytes}
-use Rattle.history.specs.Pieces.{recordsBelow, keysBelow, sortedLines, tailLines, serialLines, Taken, Scratch, Traced, Traceable, Accounted, Handable, Handed, handRefused, handedCounts, refusedCounts}
+use Rattle.history.proofs.Whole.{account-bytes, events-most, counts-are}
+use Rattle.lists.specs.Line.{lineWidth}
+use Rattle.demands.specs.Lines.{accountBytes}
+use Rattle.history.specs.Pieces.{recordsBelow, serialLines, Admitted, Scratch, Traceable, Accounted, Handable, Handed, handRefused, handedCounts, refusedCounts}
 use Rattle.demands.specs.Run.{runSizes, runTrace, runBook, runRefused, runNumber, countsAs, Ran}
 use Rattle.demands.specs.declared.Counts.{Counts}
 
@@ -77,30 +76,21 @@ module _ (list trace account : List ℕ) (l : Layout) (e : l ≡ readOf list) wh
     pub ran-29 : length trace < 8 * l .actions → (r : Counts) → r ≡ refusedCounts 29 → Ran list trace account r trace account
     ran-29 h = ran-refused list trace account 28 (past-reader ∙ rw (lt-ltb (length trace) (recordWidth * readOf list .actions) (omega (arith, actions-are))))
 
-pub taken-few : {list : List ℕ} {l : Layout} {trace : List ℕ} → Taken list l trace → l .actions ≤ mostActions
+pub taken-few : {list : List ℕ} {l : Layout} {trace : List ℕ} → Admitted list l trace → l .actions ≤ mostActions
 taken-few {list} {l} g = omega (arith, ap (λ (y : Layout). y .actions) (g .layout), sized list (readOf list) refl (g .taken) .few)
-
--- ---- scratch for lists of up to m actions
-
-pub scratch : (m n : ℕ) → n ≤ m → Scratch n (replicate (recordWidth * m) 0) (replicate (lineWidth * m) 0) (replicate m 0) (replicate m 0) (replicate (m + 1) 0)
-scratch m n h =
-    record {
-      trace-fits = rw (length-replicate {A = ℕ} (recordWidth * m) 0) (omega arith);
-      account-fits = rw (length-replicate {A = ℕ} (lineWidth * m) 0) (omega arith);
-      keys-fit = rw (length-replicate {A = ℕ} m 0) h;
-      order-fits = rw (length-replicate {A = ℕ} m 0) h;
-      counts-fit = rw (length-replicate {A = ℕ} (m + 1) 0) (omega arith);
-      zero = record { each = λ k l. getD-replicate {A = ℕ} (m + 1) k 0 0 (omega (arith, length-replicate {A = ℕ} (m + 1) 0)) };
-    }
 
 -- ---- a list that the reader takes, traced into t′ and written up into a′
 
-module _ {list : List ℕ} {l : Layout} {trace t a keys sorted counts : List ℕ} (g : Taken list l trace) (s : Scratch (l .actions) t a keys sorted counts) {outs : List OutQueue} {t′ : List ℕ} (h : Traced list t outs t′) where
+module _ {list : List ℕ} {l : Layout} {trace t a keys sorted counts : List ℕ} (s : Scratch list l trace t a keys sorted counts) where
+  g : Admitted list l trace
+  g = s .admitted
+
+  -- how many keys there are
+  pub table-room : l .actions + l .sizes .engines + 1 ≤ length counts
+  table-room = omega (arith, s .counts-fit, ap (λ (y : Layout). y .sizes .engines) (g .layout), sized list (readOf list) refl (g .taken) .sizes-in .engines-in .high)
+
   ok : readOf list .number ≡ 0
   ok = g .taken
-
-  recs : recordsBelow (actionAt t′) (readOf list .actions) ≡ runTrace list
-  recs = traced-records list t t′ (h .trace-is)
 
   sizes-are : l .sizes ≡ runSizes list
   sizes-are = ap (λ (y : Layout). y .sizes) (g .layout)
@@ -114,33 +104,33 @@ module _ {list : List ℕ} {l : Layout} {trace t a keys sorted counts : List ℕ
   few : readOf list .actions ≤ mostActions
   few = sized list (readOf list) refl ok .few
 
-  trace-long : recordWidth * l .actions ≤ length t′
-  unfolding laid
-  trace-long = omega (arith, ap length (h .trace-is), length-append (rows recordBytes (runTrace list)) (drop (length (rows recordBytes (runTrace list))) t), run-bytes-long list, n-are)
-
-  events-few : length (account′ list) ≤ l .actions
-  events-few = omega (arith, events-most list ok (actionAt t′) recs, n-are)
-
-  pub traceable : Traceable t′ (l .sizes) outs (take (l .actions) keys) sorted (take (l .actions + 1) counts) a
+  pub traceable : Traceable (l .sizes) (take (l .actions) keys) sorted (take (l .actions + l .sizes .engines + 1) counts) a
   traceable =
-      let m : length (take (l .actions + 1) counts) ≡ l .actions + 1 = length-take-le (l .actions + 1) counts (s .counts-fit) in
       record {
         few = omega (arith, keys-many, n-are, few);
         sorted-long = omega (arith, keys-many, s .order-fits);
-        counts-long = m ∙ ap (λ (k : ℕ). k + 1) (sym keys-many);
-        zero = record { each = λ k b. getD-take (l .actions + 1) counts k 0 (omega arith) ∙ s .zero .each k (omega (arith, s .counts-fit)) };
+        counts-long = length-take-le (l .actions + l .sizes .engines + 1) counts table-room ∙ omega (arith, keys-many);
         some-engine = rw sizes-are (sized list (readOf list) refl ok .sizes-in .engines-in .low);
         engines = rw sizes-are (sized list (readOf list) refl ok .sizes-in .engines-in .high);
-        short = rw (sizes-are, h .outs) (outs-short list ok (actionAt t′) recs);
-        room = rw (keys-many, n-are, sizes-are, h .outs) (omega (arith, events-are list ok (actionAt t′) recs, events-few, s .account-fits));
+        room = omega (arith, keys-many, s .account-fits);
       }
 
-  module _ {c : Counts} {a′ : List ℕ} (k : Accounted t′ (length (take (l .actions) keys)) (l .sizes) outs a c a′) where
-    k′ : Accounted t′ (readOf list .actions) (runSizes list) outs a c a′
+  module _ {t′ : List ℕ} (h : t′ ≡ laid (rows recordBytes (runTrace list)) t) {c : Counts} {a′ : List ℕ} (k : Accounted (actionAt t′) (length (take (l .actions) keys)) (l .sizes) a c a′) where
+    recs : recordsBelow (actionAt t′) (readOf list .actions) ≡ runTrace list
+    recs = traced-records list t t′ h
+
+    trace-long : recordWidth * l .actions ≤ length t′
+    unfolding laid
+    trace-long = omega (arith, ap length h, length-append (rows recordBytes (runTrace list)) (drop (length (rows recordBytes (runTrace list))) t), run-bytes-long list, n-are)
+
+    events-few : length (account′ list) ≤ l .actions
+    events-few = omega (arith, events-most list ok (actionAt t′) recs, n-are)
+
+    k′ : Accounted (actionAt t′) (readOf list .actions) (runSizes list) a c a′
     k′ = rw (keys-many, n-are, sizes-are) at k
 
     c-is : c ≡ countsAs 0 list
-    c-is = counts-are list ok (actionAt t′) recs outs t′ a c a′ (h .outs) refl k′
+    c-is = counts-are list ok (actionAt t′) recs a c a′ k′
 
     events-is : c .events ≡ length (account′ list)
     events-is = ap (λ (y : Counts). y .events) c-is
@@ -151,8 +141,7 @@ module _ {list : List ℕ} {l : Layout} {trace t a keys sorted counts : List ℕ
     a-is : a′ ≡ laid bytes a
     a-is =
         k′ .account-is
-        ∙ (ap (λ (o : List OutQueue). put a 0 (sortedLines (actionAt t′) (keysBelow (actionAt t′) (readOf list .actions)) ++ tailLines o (runSizes list .engines))) (h .outs)
-        ∙ (ap (put a 0) (account-bytes list ok (actionAt t′) recs) ∙ put-front a bytes (omega (arith, length-account (runSizes list) (runBook list), events-few, s .account-fits))))
+        ∙ (ap (put a 0) (account-bytes list ok (actionAt t′) recs) ∙ put-front a bytes (omega (arith, length-account (runSizes list) (runBook list), events-few, s .account-fits)))
 
     a-long : length a′ ≡ length a
     a-long = ap length (k′ .account-is) ∙ length-put a 0 _
@@ -169,7 +158,7 @@ module _ {list : List ℕ} {l : Layout} {trace t a keys sorted counts : List ℕ
     serial-is : serialLines (memoryTable list) a′ 0 (c .events) ≡ serial? (runMemory list) (account′ list)
     serial-is =
         rw (a-is, events-is)
-        (serial-laid (agrees-memory list) (runSizes list) (runBook list) a
+        (serial-laid (tabled-memory list) (runSizes list) (runBook list) a
         (below-wider (account′ list) (sized list (readOf list) refl ok .sizes-in .addresses-in .high) (rw (run-book list ok) (below-account (runSizes list) (runMemory list) (runSteps list)))))
 
     module _ (table account : List ℕ) (b : table ≡ memoryTable list) where
@@ -187,7 +176,7 @@ module _ {list : List ℕ} {l : Layout} {trace t a keys sorted counts : List ℕ
 
       take-trace : take (8 * l .actions) t′ ≡ rows recordBytes (runTrace list)
       unfolding laid
-      take-trace = rw (h .trace-is) (take-at (rows recordBytes (runTrace list)) _ (8 * l .actions) (run-bytes-long list ∙ rw n-are))
+      take-trace = rw (h) (take-at (rows recordBytes (runTrace list)) _ (8 * l .actions) (run-bytes-long list ∙ rw n-are))
 
       take-account : take (lineWidth * c .events) a′ ≡ bytes
       unfolding laid

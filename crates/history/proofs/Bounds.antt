@@ -1,22 +1,22 @@
--- Of any records: no floor is above the number of events, and no slot but `nowhere`. Assumes nothing.
-use Prim.Native.Nat.{ℕ, zero, suc, pred, _+_, _≤_, _<_, zero-le}
-use native.Mathlib.Nat.{not-suc-le-zero}
+-- Of any records: how many there are, no number of the ledger is above that, and how many are of a kind. Assumes nothing.
+use Prim.Native.Nat.{ℕ, zero, suc, pred, _≤_, zero-le}
 use native.Mathlib.Omega.{arith}
-use mathlib.Core.Path.{_≡_, refl, ap, _∙_}
-use mathlib.Core.Bool.{Bool, true, false}
-use mathlib.Core.List.{List, [], _∷_, _++_}
-use mathlib.Core.Logic.{_⊎_, inl, inr}
-use lib.Dec.{ltb}
-use lib.ListN.{length, getD, set, replicate, length-append, List·getD-append}
-use lib.Seq.{getD-at}
-use borrow.Author.Tests.{ltb-true, ltb-false}
+use mathlib.Core.Path.{_≡_, refl, ap}
+use mathlib.Core.Bool.{Bool, true, false, _&&_, and-true, and-false}
+use mathlib.Core.List.{List}
+use lib.Dec.{eqb}
+use lib.ListN.{length, set}
+use Rattle.figure.specs.declared.Engine.{Engine}
 use Rattle.figure.specs.declared.Record.{Record}
 use Rattle.figure.specs.declared.WriteNumber.{WriteNumber}
-use Rattle.figure.specs.Refusals.{pick, mostEngines, mostActions}
 use Rattle.figure.specs.Account.{lowest}
-use Rattle.history.specs.declared.marks.Floors.{Floors}
-use Rattle.history.specs.Pieces.{wn, takenAt, nowhere, isRead, isPublication, isTaking, moved, slotOf, floorsAt, keyAt, keysBelow, recordsBelow, sortedBelow, Small}
-use Rattle.history.proofs.Sorted.{sorted-same}
+use Rattle.figure.specs.Figure.{upd}
+use Rattle.figure.specs.Ledger.{wn, isEngine, Small, Filed}
+use Rattle.figure.specs.Refusals.{pick}
+use Rattle.figure.proofs.Entries.{small-none, small-more, filed-none, filed-more}
+use Rattle.figure.proofs.Laws.{upd-one}
+use Rattle.figure.proofs.Machines.{built-long}
+use Rattle.history.specs.Pieces.{numberAt, Few, ledgerAt, manyAt, keyAt, keysBelow, recordsBelow}
 
 -- ---- the lowest
 
@@ -31,89 +31,55 @@ lowest-alike (suc zero) f g h = h 1 (omega arith) (omega arith)
 lowest-alike (suc (suc n)) f g h =
     rw (lowest-alike (suc n) f g (λ i lo hi. h i lo (omega arith)), h (suc (suc n)) (omega arith) (omega arith))
 
--- ---- floors
-
-set-most : (n : ℕ) (l : List WriteNumber) (i v : ℕ) → v ≤ n → ((j : ℕ) → getD l j (wn 0) .0 ≤ n) → (j : ℕ) → getD (set l i (wn v)) j (wn 0) .0 ≤ n
-set-most n [] i v e h j = h j
-set-most n (w ∷ l) zero v e h zero = e
-set-most n (w ∷ l) zero v e h (suc j) = h (suc j)
-set-most n (w ∷ l) (suc i) v e h zero = h zero
-set-most n (w ∷ l) (suc i) v e h (suc j) = set-most n l i v e (λ k. h (suc k)) j
-
--- nobody has taken any
-pub none-taken : (m j : ℕ) → getD (replicate m (wn 0)) j (wn 0) .0 ≡ 0
-none-taken zero j = refl
-none-taken (suc m) zero = refl
-none-taken (suc m) (suc j) = none-taken m j
-
-pub small-le : {m n : ℕ} {f : Floors} → m ≤ n → Small m f → Small n f
-small-le {f = f} h s = record { published = omega (arith, s .published); taken = λ j. omega (arith, s .taken j) }
-
-module _ (n : ℕ) (f : Floors) (e : Record) (s : Small n f) where
-  small-more : Small (suc n) (moved f e)
-  small-more = record { published = at (isPublication e); taken = by (isTaking e) (e .engine .0) }
-    where
-      at : (t : Bool) → pick t (suc (f .published .0)) (f .published .0) ≤ suc n
-      at true = omega (arith, s .published)
-      at false = omega (arith, s .published)
-
-      by : (t : Bool) (i j : ℕ) → getD (pick t (set (f .taken) (pred i) (wn (suc (takenAt f i)))) (f .taken)) j (wn 0) .0 ≤ suc n
-      by true i j = set-most (suc n) (f .taken) (pred i) (suc (takenAt f i)) (omega (arith, s .taken (pred i))) (λ k. omega (arith, s .taken k)) j
-      by false i j = omega (arith, s .taken j)
-
-  -- an event's slot
-  pub slot-small : (slotOf f e ≤ suc n) ⊎ (slotOf f e ≡ nowhere)
-  slot-small = at (isRead e) (isPublication e)
-    where
-      at : (p q : Bool) → let v = pick p (takenAt f (e .engine .0)) (pick q (suc (f .published .0)) nowhere) in (v ≤ suc n) ⊎ (v ≡ nowhere)
-      at true q = inl (omega (arith, s .taken (pred (e .engine .0))))
-      at false true = inl (omega (arith, s .published))
-      at false false = inr refl
-
--- a list that is built from the front: its length and its entries
-module _ {A : Type 0} (g : ℕ → A) (l : ℕ → List A) (none : l 0 ≡ []) (more : (n : ℕ) → l (suc n) ≡ l n ++ (g n ∷ [])) where
-  built-long : (n : ℕ) → length (l n) ≡ n
-  built-long zero = ap length none
-  built-long (suc n) = ap length (more n) ∙ length-append (l n) (g n ∷ []) ∙ omega (arith, built-long n)
-
-  built-at : (n k : ℕ) (d : A) → k < n → getD (l n) k d ≡ g k
-  built-at zero k d h = absurd (not-suc-le-zero h)
-  built-at (suc n) k d h = ap (λ (m : List A). getD m k d) (more n) ∙ at (ltb k n) refl (built-at n k d)
-    where
-      at : (t : Bool) → ltb k n ≡ t → (k < n → getD (l n) k d ≡ g k) → getD (l n ++ (g n ∷ [])) k d ≡ g k
-      at true e ih = List·getD-append (l n) (g n ∷ []) d k (omega (arith, built-long n, ltb-true k n e)) ∙ ih (ltb-true k n e)
-      at false e ih =
-          let q : k ≡ n = omega (arith, ltb-false k n e) in
-          rw q (getD-at (l n) (g n) [] d n (built-long n))
+-- ---- the first n, the ledger after them, and their keys
 
 module _ (x : ℕ → Record) where
   pub records-long : (n : ℕ) → length (recordsBelow x n) ≡ n
   unfolding recordsBelow
   records-long = built-long x (recordsBelow x) refl (λ n. refl)
 
-  pub keys-long : (n : ℕ) → length (keysBelow x n) ≡ n
+  pub keys-long : (n k : ℕ) → length (keysBelow x n k) ≡ k
   unfolding keysBelow
-  keys-long = built-long (keyAt x) (keysBelow x) refl (λ n. refl)
+  keys-long n = built-long (keyAt x n) (keysBelow x n) refl (λ k. refl)
 
-  keys-at : (n k : ℕ) → k < n → getD (keysBelow x n) k 0 ≡ keyAt x k
-  unfolding keysBelow
-  keys-at n k = built-at (keyAt x) (keysBelow x) refl (λ n. refl) n k 0
+  pub ledger-small : (n : ℕ) → Small n (ledgerAt x n)
+  unfolding ledgerAt
+  ledger-small zero = small-none 0
+  ledger-small (suc n) = small-more n (ledgerAt x n) (x n) (ledger-small n)
 
-  pub floors-small : (n : ℕ) → Small n (floorsAt x n)
-  unfolding floorsAt
-  floors-small zero = record { published = zero-le; taken = λ j. omega (arith, none-taken mostEngines j) }
-  floors-small (suc n) = small-more n (floorsAt x n) (x n) (floors-small n)
+  -- ---- how many of the first k events are of a kind, by engine
 
-  -- of n events, no key lies between n and `nowhere`: a table of n + 1 entries has all that have a slot
-  pub keys-sorted : (n : ℕ) → n ≤ mostActions → sortedBelow (keysBelow x n) (n + 1) ≡ sortedBelow (keysBelow x n) nowhere
-  keys-sorted n few = sorted-same (keysBelow x n) (n + 1) nowhere (omega arith) gap
-    where
-      at : (i : ℕ) → i < n → n + 1 ≤ keyAt x i → (keyAt x i ≤ suc i) ⊎ (keyAt x i ≡ nowhere) → nowhere ≤ keyAt x i
-      at i l h (inl m) = absurd (omega arith)
-      at i l h (inr e) = omega arith
+  module _ (kind : ℕ) where
+    unfoldable pub many : ℕ → ℕ → ℕ
+    many zero = λ i. 0
+    many (suc k) = pick (eqb (x k .kind) kind) (upd (many k) (x k .engine .0) (suc (many k (x k .engine .0)))) (many k)
 
-      gap : (i : ℕ) → i < length (keysBelow x n) → n + 1 ≤ getD (keysBelow x n) i 0 → nowhere ≤ getD (keysBelow x n) i 0
-      gap i l h =
-          let b : i < n = omega (arith, keys-long n) in
-          let e = keys-at n i b in
-          rw e (at i b (rw e at h) (slot-small i (floorsAt x i) (x i) (floors-small i)))
+    pub many-filed : (k : ℕ) → Filed (manyAt x kind k) (many k)
+    unfolding manyAt many
+    many-filed zero = filed-none
+    many-filed (suc k) = at (eqb (x k .kind) kind) (many-filed k)
+      where
+        ws : List WriteNumber
+        ws = manyAt x kind k
+
+        i : Engine
+        i = x k .engine
+
+        new : List WriteNumber
+        new = set ws (pred (i .0)) (wn (suc (numberAt ws (i .0))))
+
+        at : (t : Bool) → Filed ws (many k) → Filed (pick (isEngine i && t) new ws) (pick t (upd (many k) (i .0) (suc (many k (i .0)))) (many k))
+        at true h = rw (and-true (isEngine i)) (filed-more i _ _ (λ lo hi. ap suc (h .each (i .0) lo hi)) h)
+        at false h = rw (and-false (isEngine i)) h
+
+    many-most : (k i : ℕ) → many k i ≤ k
+    unfolding many
+    many-most zero = λ i. zero-le
+    many-most (suc k) = at (eqb (x k .kind) kind) (many-most k)
+      where
+        at : (t : Bool) → ((i : ℕ) → many k i ≤ k) → (j : ℕ) → pick t (upd (many k) (x k .engine .0) (suc (many k (x k .engine .0)))) (many k) j ≤ suc k
+        at true h = upd-one (λ j m. m ≤ suc k) (many k) (x k .engine .0) _ (omega (arith, h (x k .engine .0))) (λ j _. omega (arith, h j))
+        at false h = λ j. omega (arith, h j)
+
+    pub many-few : (k : ℕ) → Few k (manyAt x kind k)
+    many-few k = record { each = λ i lo hi. omega (arith, many-filed k .each i lo hi, many-most k i) }

@@ -1,15 +1,14 @@
 -- Handing over: 30, 31, or both buffers. Assumes nothing.
-use mathlib.Core.Bool.{Bool, true, false, not}
-use mathlib.Core.List.{List, [], _∷_}
-use mathlib.Core.Path.{_≡_, refl, sym, ap, _∙_}
-use Prim.Native.Nat.{ℕ, zero, suc, _*_}
+use mathlib.Core.Bool.{true, false}
+use mathlib.Core.List.{List}
+use mathlib.Core.Path.{_≡_}
+use Prim.Native.Nat.{ℕ, suc, _*_}
 use lib.Dec.{ltb}
 use lib.ListN.{length, take}
-use Rattle.figure.specs.Refusals.{pick, firstOf}
+use Rattle.figure.specs.Refusals.{firstOf, unless}
 use Rattle.lists.specs.Bytes.{laid}
-use Rattle.lists.specs.Write.{unless}
-use Rattle.demands.specs.Lines.{lineWidth}
-use Rattle.history.specs.Pieces.{serialLines, handRefused, handedCounts, refusedCounts, Handed}
+use Rattle.lists.specs.Line.{lineWidth}
+use Rattle.history.specs.Pieces.{serialLines, handRefused, refusedCounts, Handed}
 use Rattle.demands.specs.declared.Counts.{Counts}
 
 module _ (table t : List ℕ) (n : ℕ) (a : List ℕ) (c : Counts) (trace account : List ℕ) where

@@ -1,11 +1,7 @@
-pub mod Sorted
-pub mod Passes
 pub mod Marking
 pub mod Firsts
 pub mod Testing
 pub mod LineLaws
-pub mod Tail
-pub mod Told
 pub mod Fitting
 pub mod Placing
 pub mod Bounds

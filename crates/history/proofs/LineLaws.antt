@@ -1,51 +1,36 @@
 -- The account's lines: how many bytes they have, and that the test of the bytes is the figure's test of the account. Assumes nothing.
-use mathlib.Core.Path.{_≡_, refl, sym, _∙_}
+use mathlib.Core.Path.{_≡_, refl, sym, ap, _∙_}
 use mathlib.Core.Bool.{Bool, true, false}
-use mathlib.Core.List.{List, [], _∷_, _++_, append-assoc, append-nil}
+use mathlib.Core.List.{List, [], _∷_, _++_}
 use Prim.Native.Nat.{ℕ, zero, suc, _+_, _-_, _*_, _≤_, _<_}
 use native.Mathlib.Omega.{arith}
 use lib.Dec.{eqb}
 use lib.ListN.{length, getD, set, drop, replicate, length-append, length-set, length-replicate}
 use lib.Seq.{getD-set-same, getD-set-other, drop-drop}
 use borrow.Author.Tests.{eqb-true, eqb-false, lt-ltb}
-use Rattle.figure.specs.Account.{Item, reading, writing, Book, flat, unpublished, account}
+use Rattle.figure.specs.Account.{Item, reading, writing, Book, account}
 use Rattle.figure.specs.Demand.{serial?}
 use Rattle.figure.specs.Figure.{upd}
 use Rattle.figure.specs.Refusals.{mostAddresses}
 use Rattle.figure.specs.declared.Record.{Record}
 use Rattle.figure.specs.declared.Sizes.{Sizes}
-use Rattle.lists.specs.Bytes.{u32At, u32Bytes, rows, laid}
+use Rattle.lists.specs.Bytes.{rows, laid}
 use Rattle.lists.specs.Read.{readOf, memoryOf, memoryTable}
-use Rattle.lists.specs.Record.{recordAt}
-use Rattle.lists.proofs.Each.{length-each}
-use Rattle.lists.proofs.Numbers.{record-drop, record-back}
+use Rattle.lists.proofs.Codecs.{line-lawful}
 use Rattle.lists.proofs.Rows.{length-rows}
 use Rattle.lists.proofs.Sized.{held}
-use Rattle.shape.specs.Parts.{outOf, noOut}
-use Rattle.shape.specs.declared.OutEntry.{OutEntry}
-use Rattle.shape.specs.declared.OutQueue.{OutQueue}
+use Rattle.lists.proofs.Table.{length-memory}
 use Rattle.demands.proofs.Listed.{Listed, none, more, listed-account}
 use Rattle.history.proofs.Testing.{serial-more}
-use Rattle.demands.specs.Lines.{itemRecord, lineWidth, noNumber, lineBytes, slotLines, accountBytes}
-use Rattle.history.specs.Pieces.{lineOf, placedLine, writeRecord, queueLines, tailLines, totalLen, serialLines}
+use Rattle.lists.specs.Line.{lineWidth, lineAt}
+use Rattle.demands.specs.Lines.{itemRecord, itemLine, itemBytes, accountBytes}
+use Rattle.lists.specs.declared.line.Line.{Line}
+use Rattle.history.specs.Pieces.{placedLine, serialLines}
 
 -- ---- how many bytes
 
-pub length-line : (k : ℕ) (e : Record) → length (lineOf k e) ≡ lineWidth
-length-line k e = refl
-
 pub length-placed : (x : ℕ → Record) (keys js : List ℕ) → length (rows (placedLine x keys) js) ≡ lineWidth * length js
 length-placed x keys js = length-rows (placedLine x keys) lineWidth (λ j. refl) js
-
-pub length-queue : (i : ℕ) (q : OutQueue) → length (queueLines i q) ≡ lineWidth * length (outOf q)
-length-queue i q = length-rows (λ (e : OutEntry). lineOf noNumber (writeRecord i e)) lineWidth (λ e. refl) (outOf q)
-
-pub length-tail : (qs : List OutQueue) (n : ℕ) → length (tailLines qs n) ≡ lineWidth * totalLen qs n
-unfolding tailLines totalLen
-length-tail qs zero = refl
-length-tail qs (suc n) =
-    let q = getD qs n noOut in
-    omega (arith, length-append (tailLines qs n) (queueLines (suc n) q), length-tail qs n, length-queue (suc n) q)
 
 -- ---- the test of the bytes is the test of the account
 
@@ -67,43 +52,45 @@ below-wider [] l h = tt
 below-wider (x ∷ xs) l h = (omega (arith, h .0), below-wider xs l (h .1))
 
 -- the table of the code, and the memory of the figure
-pub record Agrees (table : List ℕ) (m : ℕ → ℕ) : Type 0 where
+pub record Tabled (table : List ℕ) (m : ℕ → ℕ) : Type 0 where
   pub long : length table ≡ mostAddresses
   pub same : (a : ℕ) → a < mostAddresses → getD table a 0 ≡ m a
 
-pub agrees-set : {table : List ℕ} {m : ℕ → ℕ} → Agrees table m → (a d : ℕ) → a < mostAddresses → Agrees (set table a d) (upd m a d)
-agrees-set {table} {m} g a d h = record { long = length-set table a d ∙ g .long; same = λ j l. at j l (eqb j a) refl }
+pub tabled-set : {table : List ℕ} {m : ℕ → ℕ} → Tabled table m → (a d : ℕ) → a < mostAddresses → Tabled (set table a d) (upd m a d)
+tabled-set {table} {m} g a d h = record { long = length-set table a d ∙ g .long; same = λ j l. at j l (eqb j a) refl }
   where
     at : (j : ℕ) → j < mostAddresses → (t : Bool) → eqb j a ≡ t → getD (set table a d) j 0 ≡ elim t [ true ↦ d | false ↦ m j ]
     at j l true e = rw (eqb-true j a e) (getD-set-same table a d 0 (rw (g .long) h))
     at j l false e = getD-set-other table a j d 0 (eqb-false j a e) ∙ g .same j l
 
--- the line at place p is that of the item
-line-back : (lines : List ℕ) (p k : ℕ) (x : Item) (bytes : List ℕ) → drop (lineWidth * p) lines ≡ lineBytes k x ++ bytes → recordAt lines (lineWidth * p) ≡ itemRecord x
-line-back lines p k x bytes e = record-drop lines (lineWidth * p) ∙ rw (e) (record-back (itemRecord x) (u32Bytes k ++ bytes))
+-- the event of the line at place p is that of the item
+line-event : (lines : List ℕ) (p k : ℕ) (x : Item) (bytes : List ℕ) → drop (lineWidth * p) lines ≡ itemBytes k x ++ bytes → itemRecord x ≡ lineAt lines (lineWidth * p) .event
+line-event lines p k x bytes e =
+    let here : lineAt lines (lineWidth * p) ≡ itemLine k x = line-lawful .shift lines (lineWidth * p) ∙ rw (e) (line-lawful .back (itemLine k x) bytes) in
+    ap (λ (l : Line). l .event) (sym here)
 
-next-line : (lines : List ℕ) (p k : ℕ) (x : Item) (bytes : List ℕ) → drop (lineWidth * p) lines ≡ lineBytes k x ++ bytes → drop (lineWidth * suc p) lines ≡ bytes
+next-line : (lines : List ℕ) (p k : ℕ) (x : Item) (bytes : List ℕ) → drop (lineWidth * p) lines ≡ itemBytes k x ++ bytes → drop (lineWidth * suc p) lines ≡ bytes
 next-line lines p k x bytes e =
     let sum : lineWidth * suc p ≡ lineWidth * p + lineWidth = omega arith in
     rw (sum, ← (drop-drop lineWidth (lineWidth * p) lines), e)
 
-serial-listed : {table : List ℕ} {m : ℕ → ℕ} {xs : List Item} {bytes : List ℕ} → Agrees table m → (lines : List ℕ) (p : ℕ) → Listed xs bytes → drop (lineWidth * p) lines ≡ bytes → Below mostAddresses xs → serialLines table lines p (length xs) ≡ serial? m xs
+serial-listed : {table : List ℕ} {m : ℕ → ℕ} {xs : List Item} {bytes : List ℕ} → Tabled table m → (lines : List ℕ) (p : ℕ) → Listed xs bytes → drop (lineWidth * p) lines ≡ bytes → Below mostAddresses xs → serialLines table lines p (length xs) ≡ serial? m xs
 unfolding serialLines
 serial-listed g lines p none e h = refl
 serial-listed {table} {m} g lines p (more k (reading t i a d) xs bytes l) e h =
     let x = reading t i a d in
-    serial-more table lines p (length xs) (itemRecord x) (sym (line-back lines p k x bytes e))
+    serial-more table lines p (length xs) (itemRecord x) (line-event lines p k x bytes e)
     ∙ rw (lt-ltb a mostAddresses (h .0), g .same a (h .0), serial-listed g lines (suc p) l (next-line lines p k x bytes e) (h .1))
 serial-listed {table} {m} g lines p (more k (writing t i a d) xs bytes l) e h =
     let x = writing t i a d in
-    serial-more table lines p (length xs) (itemRecord x) (sym (line-back lines p k x bytes e))
-    ∙ rw (lt-ltb a mostAddresses (h .0), serial-listed (agrees-set g a d (h .0)) lines (suc p) l (next-line lines p k x bytes e) (h .1))
+    serial-more table lines p (length xs) (itemRecord x) (line-event lines p k x bytes e)
+    ∙ rw (lt-ltb a mostAddresses (h .0), serial-listed (tabled-set g a d (h .0)) lines (suc p) l (next-line lines p k x bytes e) (h .1))
 
-pub serial-account : {table : List ℕ} {m : ℕ → ℕ} → Agrees table m → (z : Sizes) (b : Book) (rest : List ℕ) → Below mostAddresses (account z b) → serialLines table (accountBytes z b ++ rest) 0 (length (account z b)) ≡ serial? m (account z b)
+pub serial-account : {table : List ℕ} {m : ℕ → ℕ} → Tabled table m → (z : Sizes) (b : Book) (rest : List ℕ) → Below mostAddresses (account z b) → serialLines table (accountBytes z b ++ rest) 0 (length (account z b)) ≡ serial? m (account z b)
 serial-account g z b rest h = serial-listed g (accountBytes z b ++ rest) 0 (listed-account z b rest) refl h
 
 -- the same of a buffer that has the account over its front
-pub serial-laid : {table : List ℕ} {m : ℕ → ℕ} → Agrees table m → (z : Sizes) (b : Book) (old : List ℕ) → Below mostAddresses (account z b) → serialLines table (laid (accountBytes z b) old) 0 (length (account z b)) ≡ serial? m (account z b)
+pub serial-laid : {table : List ℕ} {m : ℕ → ℕ} → Tabled table m → (z : Sizes) (b : Book) (old : List ℕ) → Below mostAddresses (account z b) → serialLines table (laid (accountBytes z b) old) 0 (length (account z b)) ≡ serial? m (account z b)
 unfolding laid
 serial-laid g z b old h = serial-account g z b (drop (length (accountBytes z b)) old) h
 
@@ -116,8 +103,7 @@ padded-same (x ∷ xs) k zero = refl
 padded-same (x ∷ xs) k (suc a) = padded-same xs k a
 
 -- the table that the code reads off a list
-pub agrees-memory : (list : List ℕ) → Agrees (memoryTable list) (λ a. getD (memoryOf list) a 0)
-unfolding memoryOf
-agrees-memory list =
-    let few : length (memoryOf list) ≤ mostAddresses = rw (length-each u32At 4 list (readOf list .«memory_at») (readOf list .sizes .addresses)) (held list (readOf list) refl .addresses-most) in
+pub tabled-memory : (list : List ℕ) → Tabled (memoryTable list) (λ a. getD (memoryOf list) a 0)
+tabled-memory list =
+    let few : length (memoryOf list) ≤ mostAddresses = rw (length-memory list) (held list (readOf list) refl .addresses-most) in
     record { long = simp (length-append, length-replicate) (omega arith); same = λ a h. padded-same (memoryOf list) (mostAddresses - length (memoryOf list)) a }

@@ -11,12 +11,11 @@ use lib.ListN.{getD, set}
 use borrow.Author.Tests.{lt-ltb, le-ltb, eq-eqb, ne-eqb}
 use Rattle.figure.specs.Refusals.{pick, mostAddresses}
 use Rattle.figure.specs.declared.Record.{Record}
-use Rattle.lists.specs.Record.{recordAt}
-use Rattle.demands.specs.Lines.{lineWidth}
+use Rattle.lists.specs.Line.{lineWidth, lineAt}
 use Rattle.history.specs.Pieces.{serialLines}
 
 -- one line more, whose event is e
-pub serial-more : (memory lines : List ℕ) (p n : ℕ) (e : Record) → e ≡ recordAt lines (lineWidth * p) → serialLines memory lines p (suc n) ≡ ltb (e .address .0) mostAddresses && pick (eqb (e .kind) 2) (serialLines (set memory (e .address .0) (e .«data»)) lines (suc p) n) (eqb (getD memory (e .address .0) 0) (e .«data») && serialLines memory lines (suc p) n)
+pub serial-more : (memory lines : List ℕ) (p n : ℕ) (e : Record) → e ≡ lineAt lines (lineWidth * p) .event → serialLines memory lines p (suc n) ≡ ltb (e .address .0) mostAddresses && pick (eqb (e .kind) 2) (serialLines (set memory (e .address .0) (e .«data»)) lines (suc p) n) (eqb (getD memory (e .address .0) 0) (e .«data») && serialLines memory lines (suc p) n)
 unfolding serialLines
 serial-more memory lines p n e here = rw (here)
 
@@ -35,7 +34,7 @@ module _ {table lines : List ℕ} {n : ℕ} where
       sym (t .same ∙ rw (none))
 
   -- line p, whose event is e
-  module _ {memory : List ℕ} {p : ℕ} {e : Record} (t : Testing table lines n memory p) (h : p < n) (here : e ≡ recordAt lines (lineWidth * p)) where
+  module _ {memory : List ℕ} {p : ℕ} {e : Record} (t : Testing table lines n memory p) (h : p < n) (here : e ≡ lineAt lines (lineWidth * p) .event) where
     turn : serialLines table lines 0 n ≡ ltb (e .address .0) mostAddresses && pick (eqb (e .kind) 2) (serialLines (set memory (e .address .0) (e .«data»)) lines (p + 1) (n - (p + 1))) (eqb (getD memory (e .address .0) 0) (e .«data») && serialLines memory lines (p + 1) (n - (p + 1)))
     turn =
         let more : n - p ≡ suc (n - (p + 1)) = omega arith in

@@ -7,32 +7,32 @@ use native.Mathlib.Omega.{arith}
 use lib.ListN.{length, take, drop, length-drop}
 use lib.Seq.{drop-drop, take-all}
 use Rattle.figure.specs.Record.{noRecord}
+use Rattle.figure.specs.Refusals.{firstOf, unless}
 use Rattle.figure.specs.declared.Record.{Record}
-use Rattle.lists.specs.Bytes.{rows, each, laid}
+use Rattle.lists.specs.Bytes.{rows, laid}
+use Rattle.lists.specs.Codec.{thingsAt}
 use Rattle.lists.specs.Read.{readOf, memoryOf, memoryTable}
-use Rattle.lists.specs.Record.{recordWidth, recordBytes, recordAt}
+use Rattle.lists.specs.Record.{recordWidth, recordBytes, recordCodec}
 use Rattle.lists.specs.declared.reader.Layout.{Layout}
 use Rattle.lists.proofs.Actions.{getD-actions}
-use Rattle.lists.proofs.Each.{each-more, each-rows}
-use Rattle.lists.proofs.Numbers.{record-drop, record-back}
+use Rattle.lists.proofs.Things.{things-more, things-rows}
+use Rattle.lists.proofs.Numbers.{record-drop}
+use Rattle.lists.proofs.Codecs.{record-lawful}
 use Rattle.lists.proofs.Rows.{length-rows}
 use Rattle.lists.proofs.Sized.{sized}
 use Rattle.lists.proofs.Table.{part-in, part-is}
-use Rattle.shape.specs.Fresh.{made}
-use Rattle.shape.specs.Turns.{actionAt, storeAfter, traceAfter, bytesOf, turnsOf}
-use Rattle.shape.specs.declared.OutQueue.{OutQueue}
-use Rattle.shape.specs.declared.Store.{Store}
-use Rattle.shape.proofs.Numbers.{made-number, made-store}
-use Rattle.demands.proofs.Alike.{store-alike, trace-alike, length-trace}
+use Rattle.shape.specs.Fresh.{freshOf, freshRefused}
+use Rattle.shape.specs.Turns.{actionAt, bytesOf, turnsOf, FreshTurned}
+use Rattle.shape.proofs.Trails.{trace-alike, length-trace}
 use Rattle.demands.proofs.Runs.{fresh-taken}
-use Rattle.history.specs.Pieces.{recordsBelow, Taken, Traced}
+use Rattle.history.specs.Pieces.{recordsBelow, Admitted}
 use Rattle.demands.specs.Run.{runSizes, runFresh, runAction, runTrace}
 
 -- the records that stand in some bytes, one after another
-pub records-each : (bytes : List ℕ) (n : ℕ) → recordsBelow (actionAt bytes) n ≡ each recordAt recordWidth bytes 0 n
-unfolding recordsBelow each
+pub records-each : (bytes : List ℕ) (n : ℕ) → recordsBelow (actionAt bytes) n ≡ thingsAt recordCodec bytes 0 n
+unfolding recordsBelow thingsAt
 records-each bytes zero = refl
-records-each bytes (suc n) = rw (each-more recordAt recordWidth bytes 0 n, records-each bytes n, zero-add (recordWidth * n))
+records-each bytes (suc n) = rw (things-more recordCodec bytes 0 n, records-each bytes n, zero-add (recordWidth * n))
 
 module _ (list : List ℕ) where
   pub run-long : length (runTrace list) ≡ readOf list .actions
@@ -48,11 +48,11 @@ unfolding laid
 traced-records list t t′ e =
     records-each t′ (readOf list .actions)
     ∙ rw (e, ← (run-long list))
-    (each-rows recordAt recordWidth record-drop recordBytes (λ r. refl) record-back (runTrace list) (drop (length (rows recordBytes (runTrace list))) t))
+    (things-rows record-lawful (runTrace list) (drop (length (rows recordBytes (runTrace list))) t))
 
 -- ---- tracing: the table's part is the list's memory, and the list's part holds its actions
 
-module _ (list : List ℕ) (l : Layout) (t : List ℕ) (h : Taken list l t) (table : List ℕ) (b : table ≡ memoryTable list) where
+module _ (list : List ℕ) (l : Layout) (t : List ℕ) (h : Admitted list l t) (table : List ℕ) (b : table ≡ memoryTable list) where
   pub table-in : l .sizes .addresses ≤ length table
   table-in = part-in list l (h .layout) table b
 
@@ -62,10 +62,14 @@ module _ (list : List ℕ) (l : Layout) (t : List ℕ) (h : Taken list l t) (tab
   pub actions-in : l .«actions_at» ≤ length list
   actions-in = let w = sized list l (h .layout) numbered .whole in omega arith
 
-  made-fresh : made (l .sizes) (take (l .sizes .addresses) table) .store ≡ runFresh list
-  made-fresh =
-      rw (part-is list l (h .layout) table b, h .layout)
-      (made-store (runSizes list) (memoryOf list) (made-number (runSizes list) (memoryOf list) ∙ fresh-taken list (h .taken)))
+  abbrev part-table : List ℕ
+  part-table = take (l .sizes .addresses) table
+
+  fresh-is : freshOf (l .sizes) part-table ≡ runFresh list
+  fresh-is = rw (part-is list l (h .layout) table b, h .layout)
+
+  fresh-made : firstOf (freshRefused (l .sizes) part-table) ≡ 0
+  fresh-made = rw (part-is list l (h .layout) table b, h .layout) (fresh-taken list (h .taken))
 
   turns-taken : turnsOf (drop (l .«actions_at») list) t ≡ readOf list .actions
   turns-taken =
@@ -85,19 +89,12 @@ module _ (list : List ℕ) (l : Layout) (t : List ℕ) (h : Taken list l t) (tab
   abbrev part : List ℕ
   part = take (length list - l .«actions_at») (drop (l .«actions_at») list)
 
-  abbrev first : Store
-  first = made (l .sizes) (take (l .sizes .addresses) table) .store
-
   whole : part ≡ drop (l .«actions_at») list
   whole = take-all (length list - l .«actions_at») (drop (l .«actions_at») list) (omega (arith, length-drop (l .«actions_at») list))
 
   -- what the turns from a fresh store leave
-  pub turned-traced : (r : List OutQueue) (t′ : List ℕ) → r ≡ storeAfter first (actionAt part) (turnsOf part t) .outs → t′ ≡ laid (bytesOf (traceAfter first (actionAt part) (turnsOf part t))) t → Traced list t r t′
-  unfolding runTrace
-  turned-traced r t′ d e =
-      let x = actionAt (drop (l .«actions_at») list) in
-      let n = readOf list .actions in
-      record {
-        outs = rw (whole, made-fresh, turns-taken) at d ∙ ap (λ (s : Store). s .outs) (store-alike (runFresh list) x (runAction list) n same-action);
-        trace-is = rw (whole, made-fresh, turns-taken) at e ∙ ap (λ (rs : List Record). laid (bytesOf rs) t) (trace-alike (runFresh list) x (runAction list) n same-action);
-      }
+  pub turned-traced : {n : ℕ} (t′ : List ℕ) → FreshTurned (l .sizes) part-table part t n t′ → t′ ≡ laid (rows recordBytes (runTrace list)) t
+  unfolding runTrace unless
+  turned-traced t′ d =
+      rw (fresh-made, whole, fresh-is, turns-taken) at (d .trace-is)
+      ∙ ap (λ (rs : List Record). laid (bytesOf rs) t) (trace-alike (runFresh list) (actionAt (drop (l .«actions_at») list)) (runAction list) (readOf list .actions) same-action)

@@ -2,17 +2,20 @@
 ghost use mathlib.Core.Path.{_≡_};
 ghost use Prim.Native.Nat.{_≤_};
 ghost use lib.ListN.{length};
+ghost use Rattle.lists.specs.Bytes.{rows, laid};
 ghost use Rattle.lists.specs.Read.{memoryTable};
-ghost use Rattle.history.specs.Pieces.{Taken, Scratch, Traced, Traceable, Accounted, Handable, Handed, refusedCounts};
-ghost use Rattle.demands.specs.Run.{Ran};
+ghost use Rattle.lists.specs.Record.{recordBytes};
+ghost use Rattle.shape.specs.Turns.{actionAt};
+ghost use Rattle.history.specs.Pieces.{Admitted, Scratch, Traceable, Accounted, Handable, Handed, refusedCounts};
+ghost use Rattle.demands.specs.Run.{runTrace, Ran};
 use demands::Counts;
+use figure::ADDRESSES;
 use figure::Sizes;
+use lists::bytes::RECORD;
 use lists::reader::Layout;
-use shape::OutQueue;
 
 mod lines;
 mod marks;
-mod order;
 
 fn refused(number: u8) -> Counts
     ensures { λ r. ⌜ r ≡ refusedCounts number ⌝ }
@@ -26,7 +29,7 @@ fn refused(number: u8) -> Counts
     }
 }
 
-// Everything that can refuse is known before the first byte goes into a lent buffer. A short list has little scratch to clear.
+// Everything that can refuse is known before the first byte goes into a lent buffer.
 pub fn run(list: &[u8], trace: &mut [u8], account: &mut [u8]) -> Counts
     ensures { λ r. ⌜ Ran (now (list .entry)) (now (trace .entry)) (now (account .entry)) r (now (trace .exit)) (now (account .exit)) ⌝ }
 {
@@ -36,28 +39,90 @@ pub fn run(list: &[u8], trace: &mut [u8], account: &mut [u8]) -> Counts
         return refused(number);
     }
     let n = l.actions;
-    if trace.len() < 8 * n {
+    if trace.len() < RECORD * n {
         return refused(29);
     }
+    run_sized(list, l, trace, account)
+}
+
+// A short list has little scratch to clear.
+fn run_sized(list: &[u8], l: Layout, trace: &mut [u8], account: &mut [u8]) -> Counts
+    requires { ⌜ Admitted (now list) l (now trace) × (l .actions ≤ 2048) ⌝ }
+    ensures { λ r. ⌜ Ran (now (list .entry)) (now (trace .entry)) (now (account .entry)) r (now (trace .exit)) (now (account .exit)) ⌝ }
+{
+    let n = l.actions;
     if n <= 64 {
         return run_64(list, l, trace, account);
+    }
+    if n <= 128 {
+        return run_128(list, l, trace, account);
+    }
+    if n <= 256 {
+        return run_256(list, l, trace, account);
     }
     if n <= 512 {
         return run_512(list, l, trace, account);
     }
+    if n <= 1024 {
+        return run_1024(list, l, trace, account);
+    }
     run_2048(list, l, trace, account)
 }
 
-// The scratch of lists of up to 64, 512 and 2,048 actions.
+// The scratch of lists of up to 64, 128, .. actions.
 fn run_64(list: &[u8], l: Layout, trace: &mut [u8], account: &mut [u8]) -> Counts
-    requires { ⌜ Taken (now list) l (now trace) × (l .actions ≤ 64) ⌝ }
+    requires { ⌜ Admitted (now list) l (now trace) × (l .actions ≤ 64) ⌝ }
     ensures { λ r. ⌜ Ran (now (list .entry)) (now (trace .entry)) (now (account .entry)) r (now (trace .exit)) (now (account .exit)) ⌝ }
 {
     let mut t = [0u8; 512];
     let mut a = [0u8; 768];
     let mut keys = [0u16; 64];
     let mut sorted = [0u16; 64];
-    let mut counts = [0u16; 65];
+    let mut counts = [0u16; 73];
+    run_in(
+        list,
+        l,
+        &mut t,
+        &mut a,
+        &mut keys,
+        &mut sorted,
+        &mut counts,
+        trace,
+        account,
+    )
+}
+
+fn run_128(list: &[u8], l: Layout, trace: &mut [u8], account: &mut [u8]) -> Counts
+    requires { ⌜ Admitted (now list) l (now trace) × (l .actions ≤ 128) ⌝ }
+    ensures { λ r. ⌜ Ran (now (list .entry)) (now (trace .entry)) (now (account .entry)) r (now (trace .exit)) (now (account .exit)) ⌝ }
+{
+    let mut t = [0u8; 1024];
+    let mut a = [0u8; 1536];
+    let mut keys = [0u16; 128];
+    let mut sorted = [0u16; 128];
+    let mut counts = [0u16; 137];
+    run_in(
+        list,
+        l,
+        &mut t,
+        &mut a,
+        &mut keys,
+        &mut sorted,
+        &mut counts,
+        trace,
+        account,
+    )
+}
+
+fn run_256(list: &[u8], l: Layout, trace: &mut [u8], account: &mut [u8]) -> Counts
+    requires { ⌜ Admitted (now list) l (now trace) × (l .actions ≤ 256) ⌝ }
+    ensures { λ r. ⌜ Ran (now (list .entry)) (now (trace .entry)) (now (account .entry)) r (now (trace .exit)) (now (account .exit)) ⌝ }
+{
+    let mut t = [0u8; 2048];
+    let mut a = [0u8; 3072];
+    let mut keys = [0u16; 256];
+    let mut sorted = [0u16; 256];
+    let mut counts = [0u16; 265];
     run_in(
         list,
         l,
@@ -72,14 +137,36 @@ fn run_64(list: &[u8], l: Layout, trace: &mut [u8], account: &mut [u8]) -> Count
 }
 
 fn run_512(list: &[u8], l: Layout, trace: &mut [u8], account: &mut [u8]) -> Counts
-    requires { ⌜ Taken (now list) l (now trace) × (l .actions ≤ 512) ⌝ }
+    requires { ⌜ Admitted (now list) l (now trace) × (l .actions ≤ 512) ⌝ }
     ensures { λ r. ⌜ Ran (now (list .entry)) (now (trace .entry)) (now (account .entry)) r (now (trace .exit)) (now (account .exit)) ⌝ }
 {
     let mut t = [0u8; 4096];
     let mut a = [0u8; 6144];
     let mut keys = [0u16; 512];
     let mut sorted = [0u16; 512];
-    let mut counts = [0u16; 513];
+    let mut counts = [0u16; 521];
+    run_in(
+        list,
+        l,
+        &mut t,
+        &mut a,
+        &mut keys,
+        &mut sorted,
+        &mut counts,
+        trace,
+        account,
+    )
+}
+
+fn run_1024(list: &[u8], l: Layout, trace: &mut [u8], account: &mut [u8]) -> Counts
+    requires { ⌜ Admitted (now list) l (now trace) × (l .actions ≤ 1024) ⌝ }
+    ensures { λ r. ⌜ Ran (now (list .entry)) (now (trace .entry)) (now (account .entry)) r (now (trace .exit)) (now (account .exit)) ⌝ }
+{
+    let mut t = [0u8; 8192];
+    let mut a = [0u8; 12288];
+    let mut keys = [0u16; 1024];
+    let mut sorted = [0u16; 1024];
+    let mut counts = [0u16; 1033];
     run_in(
         list,
         l,
@@ -94,14 +181,14 @@ fn run_512(list: &[u8], l: Layout, trace: &mut [u8], account: &mut [u8]) -> Coun
 }
 
 fn run_2048(list: &[u8], l: Layout, trace: &mut [u8], account: &mut [u8]) -> Counts
-    requires { ⌜ Taken (now list) l (now trace) × (l .actions ≤ 2048) ⌝ }
+    requires { ⌜ Admitted (now list) l (now trace) × (l .actions ≤ 2048) ⌝ }
     ensures { λ r. ⌜ Ran (now (list .entry)) (now (trace .entry)) (now (account .entry)) r (now (trace .exit)) (now (account .exit)) ⌝ }
 {
     let mut t = [0u8; 16384];
     let mut a = [0u8; 24576];
     let mut keys = [0u16; 2048];
     let mut sorted = [0u16; 2048];
-    let mut counts = [0u16; 2049];
+    let mut counts = [0u16; 2057];
     run_in(
         list,
         l,
@@ -127,22 +214,21 @@ fn run_in(
     trace: &mut [u8],
     account: &mut [u8],
 ) -> Counts
-    requires { ⌜ Taken (now list) l (now trace) ⌝ }
-    requires { ⌜ Scratch (l .actions) (now t) (now a) (now keys) (now sorted) (now counts) ⌝ }
+    requires { ⌜ Scratch (now list) l (now trace) (now t) (now a) (now keys) (now sorted) (now counts) ⌝ }
     ensures { λ r. ⌜ Ran (now (list .entry)) (now (trace .entry)) (now (account .entry)) r (now (trace .exit)) (now (account .exit)) ⌝ }
 {
     let n = l.actions;
-    let m = n + 1;
-    let table = lists::memory::memory_of(list);
-    let outs = write_trace(list, l, table, t);
     let z = l.sizes;
-    let c = write_account(t, z, outs, &mut keys[..n], sorted, &mut counts[..m], a);
-    hand_over(table, t, 8 * n, a, c, trace, account)
+    let m = n + z.engines as usize + 1;
+    let table = lists::memory::memory_of(list);
+    write_trace(list, l, table, t);
+    let c = write_account(t, z, &mut keys[..n], sorted, &mut counts[..m], a);
+    hand_over(table, t, RECORD * n, a, c, trace, account)
 }
 
 // The account is judged, and both go into the lent buffers; or neither does.
 fn hand_over(
-    table: [u32; 64],
+    table: [u32; ADDRESSES],
     t: &[u8],
     n: usize,
     a: &[u8],
@@ -165,42 +251,42 @@ fn hand_over(
     c
 }
 
-// The trace of a list that the reader takes, and the out queues after it.
-fn write_trace(list: &[u8], l: Layout, table: [u32; 64], t: &mut [u8]) -> [OutQueue; 8]
-    requires { ⌜ Taken (now list) l (now t) × (table ≡ memoryTable (now list)) ⌝ }
-    ensures { λ r. ⌜ Traced (now (list .entry)) (now (t .entry)) r (now (t .exit)) ⌝ }
+// The trace of a list that the reader takes.
+fn write_trace(list: &[u8], l: Layout, table: [u32; ADDRESSES], t: &mut [u8])
+    requires { ⌜ Admitted (now list) l (now t) × (table ≡ memoryTable (now list)) ⌝ }
+    ensures { λ _. ⌜ now (t .exit) ≡ laid (rows recordBytes (runTrace (now (list .entry)))) (now (t .entry)) ⌝ }
 {
     let z = l.sizes;
     let m = z.addresses as usize;
     let at = l.actions_at;
-    store::turns_from_fresh(z, &table[..m], &list[at..], t)
+    store::turns_from_fresh(z, &table[..m], &list[at..], t);
 }
 
-// The account of a trace's first events, an event for each key, with the writes that wait in the out queues at its end.
+// The account of a trace's first events, an event for each key: one stable sort of all of them.
 fn write_account(
     t: &[u8],
     z: Sizes,
-    outs: [OutQueue; 8],
     keys: &mut [u16],
     sorted: &mut [u16],
     counts: &mut [u16],
     a: &mut [u8],
 ) -> Counts
-    requires { ⌜ Traceable (now t) z outs (now keys) (now sorted) (now counts) (now a) ⌝ }
-    ensures { λ r. ⌜ Accounted (now (t .entry)) (length (now (keys .entry))) z outs (now (a .entry)) r (now (a .exit)) ⌝ }
+    requires { ⌜ Traceable z (now keys) (now sorted) (now counts) (now a) ⌝ }
+    ensures { λ r. ⌜ Accounted (actionAt (now (t .entry))) (length (now (keys .entry))) z (now (a .entry)) r (now (a .exit)) ⌝ }
 {
-    let tally = marks::mark_all(t, keys);
-    let floors = tally.floors;
-    let low = marks::lowest_floor(floors, z.engines);
-    let placed = order::order(keys, counts, sorted);
+    let published = marks::publications(t, keys.len());
+    let tally = marks::mark_all(t, published, keys);
+    let ledger = tally.ledger;
+    let low = marks::lowest_floor(ledger, z.engines);
+    let placed = sort::order(keys, counts, sorted);
     lines::put_placed(t, keys, sorted, placed, a);
-    let events = lines::put_unpublished(a, placed, outs, z.engines);
     let accepted = tally.accepted;
+    let at = low.0 as usize;
     Counts {
         number: 0,
         accepted,
         refused: keys.len() - accepted,
-        events,
-        settled: marks::count_below(keys, low.0 + 1),
+        events: placed,
+        settled: counts[at] as usize,
     }
 }

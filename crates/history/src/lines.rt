@@ -1,17 +1,22 @@
 // The account's lines: 12 bytes each, an event of kind 1 or 2 and its number.
 ghost use mathlib.Core.Path.{_≡_};
-ghost use Prim.Native.Nat.{ℕ, _+_, _*_, _≤_, _<_};
-ghost use lib.ListN.{length, take, getD};
+ghost use Prim.Native.Nat.{_+_, _*_, _≤_};
+ghost use lib.ListN.{length, take};
 ghost use lib.Dec.{eqb};
+ghost use Rattle.figure.specs.Ledger.{wn};
 ghost use Rattle.figure.specs.Refusals.{pick};
-ghost use Rattle.shape.specs.Parts.{outOf, noOut};
 ghost use Rattle.lists.specs.Bytes.{put, rows, laid};
-ghost use Rattle.history.specs.Pieces.{wn, lineOf, placedLine, queueLines, tailLines, serialLines, Placing, totalLen};
+ghost use Rattle.lists.specs.Line.{lineWidth};
+ghost use Rattle.history.specs.Pieces.{lineOf, numberIn, placedLine, serialLines, Placing};
 ghost use Rattle.shape.specs.Turns.{actionAt};
+use figure::ADDRESSES;
 use figure::Engine;
 use figure::Record;
 use figure::WriteNumber;
-use shape::OutQueue;
+use lists::bytes::RECORD;
+use lists::line::LINE;
+use lists::line::Line;
+use lists::line::NO_NUMBER;
 
 fn line_kind(kind: u8) -> u8
     ensures { λ r. ⌜ r ≡ pick (eqb kind 1) 1 2 ⌝ }
@@ -21,20 +26,19 @@ fn line_kind(kind: u8) -> u8
 
 // The line of a traced event: a read as it is, a publication as the write that it publishes.
 fn put_line(out: &mut [u8], at: usize, e: Record, number: WriteNumber)
-    requires { ⌜ at + 12 ≤ length (now out) ⌝ }
+    requires { ⌜ at + lineWidth ≤ length (now out) ⌝ }
     ensures { λ _. ⌜ now (out .exit) ≡ put (now (out .entry)) at (lineOf (number .0) e) ⌝ }
 {
     let engine = e.engine;
     let address = e.address;
-    let line = Record {
+    let event = Record {
         kind: line_kind(e.kind),
         engine,
         origin: Engine(0),
         address,
         data: e.data,
     };
-    lists::bytes::put_record(out, at, line);
-    lists::bytes::put_u32(out, at + 8, number.0);
+    lists::line::put_line(out, at, Line { event, number });
 }
 
 // An event's key is its number in the account.
@@ -42,6 +46,16 @@ fn number_of(key: u16) -> WriteNumber
     ensures { λ r. ⌜ r ≡ wn key ⌝ }
 {
     WriteNumber(key as u32)
+}
+
+// The number of an event with that key, of n events: past n stand the writes that have none.
+fn number_in(n: usize, key: u16) -> WriteNumber
+    ensures { λ r. ⌜ r ≡ wn (numberIn n key) ⌝ }
+{
+    if key as usize <= n {
+        return number_of(key);
+    }
+    WriteNumber(NO_NUMBER)
 }
 
 // The first n indices of the order, each event's line.
@@ -52,61 +66,24 @@ pub fn put_placed(trace: &[u8], keys: &[u16], order: &[u16], n: usize, out: &mut
     let mut p = 0;
     while p < n {
         let j = order[p] as usize;
-        let e = lists::bytes::record_at(trace, 8 * j);
-        let number = number_of(keys[j]);
-        put_line(out, 12 * p, e, number);
+        let e = lists::bytes::record_at(trace, RECORD * j);
+        let number = number_in(keys.len(), keys[j]);
+        put_line(out, LINE * p, e, number);
         p += 1;
     }
 }
 
-// The writes of engine i that are not published, oldest first, from line at on.
-fn put_queue(out: &mut [u8], at: usize, i: Engine, q: OutQueue) -> usize
-    requires { ⌜ (q .len ≤ 32) × (12 * (at + length (outOf q)) ≤ length (now out)) ⌝ }
-    ensures { λ r. ⌜ (r ≡ at + length (outOf q)) × (now (out .exit) ≡ put (now (out .entry)) (12 * at) (queueLines (i .0) q)) ⌝ }
-{
-    let n = q.len as usize;
-    let mut k = 0;
-    while k < n {
-        let x = q.entries[k];
-        let address = x.address;
-        let e = Record {
-            kind: 2,
-            engine: i,
-            origin: Engine(0),
-            address,
-            data: x.data,
-        };
-        put_line(out, 12 * (at + k), e, WriteNumber(4294967295));
-        k += 1;
-    }
-    at + n
-}
-
-pub fn put_unpublished(out: &mut [u8], from: usize, outs: [OutQueue; 8], engines: u8) -> usize
-    requires { ⌜ (engines ≤ 8) × (((k : ℕ) → k < engines → getD outs k noOut .len ≤ 32) × (12 * (from + totalLen outs engines) ≤ length (now out))) ⌝ }
-    ensures { λ r. ⌜ (r ≡ from + totalLen outs engines) × (now (out .exit) ≡ put (now (out .entry)) (12 * from) (tailLines outs engines)) ⌝ }
-{
-    let mut at = from;
-    let mut i: u8 = 0;
-    while i < engines {
-        let q = outs[i as usize];
-        at = put_queue(out, at, Engine(i + 1), q);
-        i += 1;
-    }
-    at
-}
-
 // On one plain memory every read of the first n lines gets its value.
-pub fn is_serial(table: [u32; 64], lines: &[u8], n: usize) -> bool
-    requires { ⌜ 12 * n ≤ length (now lines) ⌝ }
+pub fn is_serial(table: [u32; ADDRESSES], lines: &[u8], n: usize) -> bool
+    requires { ⌜ lineWidth * n ≤ length (now lines) ⌝ }
     ensures { λ r. ⌜ r ≡ serialLines table (now (lines .entry)) 0 n ⌝ }
 {
     let mut memory = table;
     let mut p = 0;
     while p < n {
-        let e = lists::bytes::record_at(lines, 12 * p);
+        let e = lists::bytes::record_at(lines, LINE * p);
         let a = e.address.0 as usize;
-        if 64 <= a {
+        if ADDRESSES <= a {
             return false;
         }
         if e.kind == 2 {

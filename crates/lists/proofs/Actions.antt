@@ -11,13 +11,13 @@ use lib.Seq.{drop-cons}
 use Rattle.figure.specs.declared.Record.{Record}
 use Rattle.figure.specs.Record.{noRecord}
 use Rattle.figure.specs.Refusals.{mostActions}
-use Rattle.lists.specs.Record.{recordWidth, recordAt}
+use Rattle.lists.specs.Record.{recordWidth, recordAt, recordCodec}
 use Rattle.lists.specs.declared.reader.Layout.{Layout}
 use Rattle.lists.specs.Read.{readOf, actionsOf}
 use Rattle.lists.specs.Walk.{handed, isAction, Took}
 use Rattle.lists.specs.declared.walker.Found.{Found}
 use Rattle.lists.specs.declared.walker.Found.the-variants.{Action, Nothing}
-use Rattle.lists.proofs.Each.{length-each, getD-each}
+use Rattle.lists.proofs.Things.{length-things, getD-things}
 use Rattle.lists.proofs.Sized.{held}
 
 -- the first of what is left after k, as a list
@@ -30,14 +30,14 @@ none-left xs k h = rw (drop-of-length-le xs h)
 module _ (s : List ℕ) where
   pub length-actions : length (actionsOf s) ≡ readOf s .actions
   unfolding actionsOf
-  length-actions = length-each recordAt recordWidth s (readOf s .«actions_at») (readOf s .actions)
+  length-actions = length-things recordCodec s (readOf s .«actions_at») (readOf s .actions)
 
   pub few-actions : length (actionsOf s) ≤ mostActions
   few-actions = omega (arith, length-actions, held s (readOf s) refl .few)
 
   pub getD-actions : (k : ℕ) (d : Record) → k < readOf s .actions → getD (actionsOf s) k d ≡ recordAt s (readOf s .«actions_at» + recordWidth * k)
   unfolding actionsOf
-  getD-actions k d h = getD-each recordAt recordWidth s (readOf s .«actions_at») (readOf s .actions) k d h
+  getD-actions k d h = getD-things recordCodec s (readOf s .«actions_at») (readOf s .actions) k d h
 
   -- the same of what `read` returned
   module _ (l : Layout) (e : l ≡ readOf s) where

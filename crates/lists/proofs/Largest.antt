@@ -11,7 +11,7 @@ use Rattle.lists.specs.Read.{headerWidth, readOf, listBytes}
 use Rattle.lists.specs.Write.{writeRefused}
 use Rattle.lists.proofs.Sized.{good, in-range}
 use Rattle.lists.proofs.Wire.{length-list}
-use Rattle.lists.proofs.Wrote.{counted, accepts}
+use Rattle.lists.proofs.Wrote.{list-fits, write-accepts}
 use Rattle.lists.proofs.RoundTrip.{list-holds}
 
 -- the header, the most memory values and the most actions
@@ -28,7 +28,7 @@ taken-most s h =
     omega (arith, g, in-range _ (g .sizes-pass) .addresses-in .high)
 
 pub written-most : (z : Sizes) (memory actions : List ℕ) (room : ℕ) → firstOf (writeRefused z memory actions room) ≡ 0 → length (listBytes z memory actions) ≤ largest
-written-most z memory actions room h = omega (arith, length-list z memory actions, counted z memory actions room h .small)
+written-most z memory actions room h = omega (arith, length-list z memory actions, list-fits z memory actions room h .small)
 
 -- and one with the most of each is as large, and is taken
 pub as-large : (z : Sizes) (memory actions : List ℕ) → length memory ≡ mostAddresses → length actions ≡ recordWidth * mostActions → length (listBytes z memory actions) ≡ largest
@@ -37,4 +37,4 @@ as-large z memory actions m a = length-list z memory actions ∙ rw (m, a)
 pub as-large-taken : (z : Sizes) (memory actions : List ℕ) → firstOf (sizesRefused z) ≡ 0 → z .addresses ≡ mostAddresses → length memory ≡ mostAddresses → length actions ≡ recordWidth * mostActions → readOf (listBytes z memory actions) .number ≡ 0
 as-large-taken z memory actions pass n m a =
     let e = as-large z memory actions m a in
-    list-holds z memory actions largest (accepts z memory actions largest pass (m ∙ sym n) (rw (a)) (rw (a) (omega arith)) (omega (arith, e))) .taken
+    list-holds z memory actions largest (write-accepts z memory actions largest pass (m ∙ sym n) (rw (a)) (rw (a) (omega arith)) (omega (arith, e))) .taken

@@ -1,8 +1,9 @@
 -- for callers: numbers and records, buffers, what a reading says, the memory, the actions, the walk
 pub mod Numbers
-pub mod Each
+pub mod Codecs
 pub mod Put
 pub mod Rows
+pub mod Things
 pub mod Refused
 pub mod Sized
 pub mod Table

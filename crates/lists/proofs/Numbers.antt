@@ -5,7 +5,7 @@ use Prim.Native.Nat.{ℕ, _+_, _/_, _%_, _≤_, _<_}
 use native.Mathlib.Nat.{add-assoc, add-zero}
 use native.Mathlib.Omega.{arith}
 use lib.ListN.{length, take, drop, length-drop}
-use lib.Seq.{getD-drop, drop-drop, take-add, take-all}
+use lib.Seq.{getD-drop, drop-drop, take-add}
 use Rattle.figure.specs.declared.Record.{Record}
 use Rattle.lists.specs.Bytes.{Bytes, byteAt, numberOf, u32At, u32Bytes}
 use Rattle.lists.specs.Record.{recordWidth, recordAt, recordOf, recordBytes}
@@ -64,10 +64,3 @@ pub record-bytes : (s : List ℕ) (i : ℕ) → Bytes s → i + recordWidth ≤ 
 record-bytes s i b h =
     let e : take 8 (drop i s) ≡ take 4 (drop i s) ++ take 4 (drop 4 (drop i s)) = take-add 4 4 (drop i s) in
     rw (number-bytes s (i + 4) b (omega arith), e, four-at s i (omega arith), drop-drop 4 i s)
-
--- "A record is 8 bytes": every record is that of its bytes, and every eight bytes are those of their record
-pub record-of : (r : Record) → recordOf (recordBytes r) ≡ r
-record-of r = record-back r []
-
-pub bytes-of-record : (bytes : List ℕ) → length bytes ≡ recordWidth → Bytes bytes → recordBytes (recordOf bytes) ≡ bytes
-bytes-of-record bytes h b = record-bytes bytes 0 b (omega arith) ∙ take-all recordWidth bytes (omega arith)

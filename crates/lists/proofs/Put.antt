@@ -13,8 +13,8 @@ use Rattle.figure.specs.Refusals.{pick}
 use Rattle.lists.specs.Bytes.{put, laid}
 
 -- a place and a count, against the room that is left after the count
-pub shift : (i n room : ℕ) → n ≤ room → leb (i + n) room ≡ leb i (room - n)
-shift i n room h = at (leb i (room - n)) refl
+pub room-left : (i n room : ℕ) → n ≤ room → leb (i + n) room ≡ leb i (room - n)
+room-left i n room h = at (leb i (room - n)) refl
   where
     at : (t : Bool) → leb i (room - n) ≡ t → leb (i + n) room ≡ t
     at true e = le-leb (i + n) room (omega (arith, leb-true i (room - n) e))

@@ -8,7 +8,7 @@ use lib.ListN.{length, drop}
 use lib.Dec.{ltb, eqb}
 use Rattle.figure.specs.declared.Sizes.{Sizes}
 use Rattle.figure.specs.Refusals.{Refusal, _when_, pick, firstOf, sizesRefused, mostActions}
-use Rattle.figure.proofs.First.{Passed, testAt, numberAt, first-at, Numbered, first-append, first-front}
+use Rattle.figure.proofs.First.{Passed, testAt, numberAt, first-at, sizes-numbered, first-append, first-front}
 use Rattle.lists.specs.Record.{recordWidth}
 use Rattle.lists.specs.Read.{sizesAt, afterHeader, afterMemory, readRefused, refusedAs, layoutOf, readOf, listBytes}
 use Rattle.lists.specs.Write.{writeRefused}
@@ -18,10 +18,6 @@ pub first-rest : (k : ℕ) (rs : List Refusal) → Passed k rs → firstOf rs �
 first-rest zero rs h = refl
 first-rest (suc k) [] h = refl
 first-rest (suc k) (r ∷ rs) h = ap (λ (b : Bool). pick b (r .number) (firstOf rs)) (h .0) ∙ first-rest k rs (h .1)
-
-pub sizes-numbered : (z : Sizes) → Numbered (sizesRefused z)
-unfolding sizesRefused
-sizes-numbered z = (λ e. omega arith, (λ e. omega arith, (λ e. omega arith, tt)))
 
 -- a refusal is its number and zeros
 pub refused-as : (n : ℕ) (s : List ℕ) → ¬ (n ≡ 0) → refusedAs n ≡ layoutOf n s

@@ -8,22 +8,23 @@ use lib.Seq.{take-at, take-all, take-add, drop-at, drop-drop}
 use borrow.Author.Tests.{le-ltb}
 use Rattle.figure.specs.declared.Sizes.{Sizes}
 use Rattle.figure.specs.declared.Record.{Record}
-use Rattle.figure.specs.Refusals.{firstOf, sizesRefused, mostActions}
-use Rattle.figure.proofs.First.{NoneApplies, first-none, none-first, same-not}
-use Rattle.lists.specs.Bytes.{Bytes, u32At, u32Bytes, each, rows, laid}
-use Rattle.lists.specs.Record.{recordWidth, recordAt, recordBytes}
+use Rattle.figure.specs.Refusals.{firstOf, unless, sizesRefused, mostActions}
+use Rattle.figure.proofs.First.{NoneApplies, first-none, none-first, sizes-numbered, none-append, same-not}
+use Rattle.lists.specs.Bytes.{Bytes, wordWidth, u32At, u32Bytes, rows, laid}
+use Rattle.lists.specs.Codec.{thingsAt, wordCodec}
+use Rattle.lists.specs.Record.{recordWidth, recordBytes, recordCodec}
 use Rattle.lists.specs.Read.{version, headerWidth, headerBytes, versionAt, sizesAt, afterHeader, afterMemory, bodyOf, listBytes, readRefused, readOf, takenAs, memoryOf, actionsOf, actionBytesOf}
-use Rattle.lists.specs.Write.{writeRefused, unless, bytesWritten, Wrote}
+use Rattle.lists.specs.Write.{writeRefused, bytesWritten, Wrote}
 use Rattle.lists.specs.declared.reader.Layout.{Layout}
 use Rattle.lists.specs.declared.writer.Written.{Written}
-use Rattle.lists.proofs.Numbers.{number-back, number-drop, number-bytes, record-back, record-drop, record-bytes, four-at}
-use Rattle.lists.proofs.Each.{each-drop, each-rows, rows-each}
-use Rattle.lists.proofs.Rows.{length-rows}
+use Rattle.lists.proofs.Numbers.{number-back, number-bytes, four-at}
+use Rattle.lists.proofs.Codecs.{word-lawful, record-lawful}
+use Rattle.lists.proofs.Things.{things-drop, things-rows, rows-things, length-coded}
 use Rattle.lists.proofs.Table.{length-memory}
-use Rattle.lists.proofs.Refused.{sizes-numbered, partsRefused}
-use Rattle.lists.proofs.Sized.{none-append, none-taken, good}
+use Rattle.lists.proofs.Refused.{partsRefused}
+use Rattle.lists.proofs.Sized.{none-taken, good}
 use Rattle.lists.proofs.Wire.{length-body, length-list, list-parts}
-use Rattle.lists.proofs.Wrote.{Writable, writable, accepts}
+use Rattle.lists.proofs.Wrote.{Writable, writable, write-accepts}
 
 -- ---- from the writer to the reader
 module _ (z : Sizes) (memory actions : List ℕ) (room : ℕ) (w : Writable z memory actions room) where
@@ -63,12 +64,12 @@ module _ (z : Sizes) (memory actions : List ℕ) (room : ℕ) (w : Writable z me
   unfolding memoryOf listBytes bodyOf
   list-memory =
       rw (list-layout)
-      (ap (λ (n : ℕ). each u32At 4 list headerWidth n) (sym (w .memory-many)) ∙ (each-drop u32At 4 number-drop list headerWidth (length memory) ∙ each-rows u32At 4 number-drop u32Bytes (λ x. refl) number-back memory actions))
+      (ap (λ (n : ℕ). thingsAt wordCodec list headerWidth n) (sym (w .memory-many)) ∙ (things-drop word-lawful list headerWidth (length memory) ∙ things-rows word-lawful memory actions))
 
   list-action-bytes : actionBytesOf list ≡ actions
   unfolding actionBytesOf listBytes bodyOf
   list-action-bytes =
-      let m : length (rows u32Bytes memory) ≡ 4 * z .addresses = length-rows u32Bytes 4 (λ x. refl) memory ∙ ap (λ (n : ℕ). 4 * n) (w .memory-many) in
+      let m : length (rows u32Bytes memory) ≡ 4 * z .addresses = length-coded word-lawful memory ∙ ap (λ (n : ℕ). 4 * n) (w .memory-many) in
       let past : drop (headerWidth + 4 * z .addresses) list ≡ actions = sym (drop-drop (4 * z .addresses) headerWidth list) ∙ drop-at (rows u32Bytes memory) actions (4 * z .addresses) m in
       let many : length actions ≤ recordWidth * (afterMemory list / recordWidth) = omega (arith, length-list z memory actions, w .memory-many, w .even) in
       rw (list-layout, past) (take-all (recordWidth * (afterMemory list / recordWidth)) actions many)
@@ -98,9 +99,9 @@ module _ (s : List ℕ) (taken : readOf s .number ≡ 0) where
       ap length taken-action-bytes ∙ (length-drop (headerWidth + 4 * m) s ∙ omega arith)
 
   -- the list's actions are those of its action bytes
-  pub taken-actions : actionsOf s ≡ each recordAt recordWidth (actionBytesOf s) 0 (readOf s .actions)
+  pub taken-actions : actionsOf s ≡ thingsAt recordCodec (actionBytesOf s) 0 (readOf s .actions)
   unfolding actionsOf
-  taken-actions = rw (taken-action-bytes, taken-layout) (each-drop recordAt recordWidth record-drop s (headerWidth + 4 * m) (afterMemory s / recordWidth))
+  taken-actions = rw (taken-action-bytes, taken-layout) (things-drop record-lawful s (headerWidth + 4 * m) (afterMemory s / recordWidth))
 
   module _ (b : Bytes s) where
     -- the actions, written again, are the actions' bytes
@@ -109,13 +110,13 @@ module _ (s : List ℕ) (taken : readOf s .number ≡ 0) where
     taken-actions-rows =
         let g = good s taken in
         rw (taken-layout)
-        (rows-each recordAt recordWidth recordBytes s (λ i h. record-bytes s i b h) (headerWidth + 4 * m) (afterMemory s / recordWidth) (omega (arith, g)))
+        (rows-things record-lawful s b (headerWidth + 4 * m) (afterMemory s / recordWidth) (omega (arith, g)))
 
     taken-memory-rows : rows u32Bytes (memoryOf s) ≡ take (4 * m) (drop headerWidth s)
     unfolding memoryOf
     taken-memory-rows =
         let g = good s taken in
-        rw (taken-layout) (rows-each u32At 4 u32Bytes s (λ i h. number-bytes s i b h) headerWidth m (omega (arith, g)))
+        rw (taken-layout) (rows-things word-lawful s b headerWidth m (omega (arith, g)))
 
     taken-header : headerBytes (length s - 4) (sizesAt s) ≡ take headerWidth s
     taken-header =
@@ -145,18 +146,18 @@ module _ (s : List ℕ) (taken : readOf s .number ≡ 0) where
         let g = good s taken in
         let z = sizesAt s in
         let fits : length (listBytes z (memoryOf s) (actionBytesOf s)) ≤ room = rw (ap length (ap (λ (l : Layout). listBytes (l .sizes) (memoryOf s) (actionBytesOf s)) (sym taken-layout) ∙ same-bytes)) h in
-        rw (taken-layout) (accepts z (memoryOf s) (actionBytesOf s) room (g .sizes-pass) taken-memory-long (rw (taken-actions-long) (g .even)) (rw (taken-actions-long) (g .few)) fits)
+        rw (taken-layout) (write-accepts z (memoryOf s) (actionBytesOf s) room (g .sizes-pass) taken-memory-long (rw (taken-actions-long) (g .even)) (rw (taken-actions-long) (g .few)) fits)
 
 -- ---- the same of the contracts
 
 -- a list that holds these sizes, this memory and these action bytes
-pub record Holds (s : List ℕ) (z : Sizes) (memory actions : List ℕ) : Type 0 where
+pub record ListHolds (s : List ℕ) (z : Sizes) (memory actions : List ℕ) : Type 0 where
   pub taken : readOf s .number ≡ 0
   pub sizes-are : readOf s .sizes ≡ z
   pub memory-is : memoryOf s ≡ memory
   pub action-bytes-are : actionBytesOf s ≡ actions
 
-pub list-holds : (z : Sizes) (memory actions : List ℕ) (room : ℕ) → firstOf (writeRefused z memory actions room) ≡ 0 → Holds (listBytes z memory actions) z memory actions
+pub list-holds : (z : Sizes) (memory actions : List ℕ) (room : ℕ) → firstOf (writeRefused z memory actions room) ≡ 0 → ListHolds (listBytes z memory actions) z memory actions
 unfolding listBytes bodyOf
 list-holds z memory actions room h =
     let w = writable z memory actions room h in
@@ -168,7 +169,7 @@ list-holds z memory actions room h =
     }
 
 -- the actions of a list that was written are those of the action bytes; of records' bytes, the records
-pub written-actions : (z : Sizes) (memory actions : List ℕ) (room : ℕ) → firstOf (writeRefused z memory actions room) ≡ 0 → actionsOf (listBytes z memory actions) ≡ each recordAt recordWidth actions 0 (length actions / recordWidth)
+pub written-actions : (z : Sizes) (memory actions : List ℕ) (room : ℕ) → firstOf (writeRefused z memory actions room) ≡ 0 → actionsOf (listBytes z memory actions) ≡ thingsAt recordCodec actions 0 (length actions / recordWidth)
 unfolding listBytes bodyOf
 written-actions z memory actions room h =
     let w = writable z memory actions room h in
@@ -179,9 +180,9 @@ written-actions z memory actions room h =
 
 pub written-records : (z : Sizes) (memory : List ℕ) (rs : List Record) (room : ℕ) → firstOf (writeRefused z memory (rows recordBytes rs) room) ≡ 0 → actionsOf (listBytes z memory (rows recordBytes rs)) ≡ rs
 written-records z memory rs room h =
-    let n : length (rows recordBytes rs) / recordWidth ≡ length rs = omega (arith, length-rows recordBytes recordWidth (λ r. refl) rs) in
+    let n : length (rows recordBytes rs) / recordWidth ≡ length rs = omega (arith, length-coded record-lawful rs) in
     written-actions z memory (rows recordBytes rs) room h
-    ∙ rw (n) (rw (append-nil) at (each-rows recordAt recordWidth record-drop recordBytes (λ r. refl) record-back rs []))
+    ∙ rw (n) (rw (append-nil) at (things-rows record-lawful rs []))
 
 module _ {z : Sizes} {memory actions out : List ℕ} {r : Written} {out′ : List ℕ} (wrote : Wrote z memory actions out r out′) where
   -- what is written is the list, where nothing is refused
@@ -193,7 +194,7 @@ module _ {z : Sizes} {memory actions out : List ℕ} {r : Written} {out′ : Lis
       rw (wrote .out-is, wrote .length-is, all) (take-at (listBytes z memory actions) (drop (length (listBytes z memory actions)) out) (length (listBytes z memory actions)) refl)
 
   -- "what the writer writes reads back the same"
-  pub reads-back : r .number ≡ 0 → Holds (take (r .length) out′) z memory actions
+  pub reads-back : r .number ≡ 0 → ListHolds (take (r .length) out′) z memory actions
   reads-back h = rw (front-written h) (list-holds z memory actions (length out) (sym (wrote .number-is) ∙ h))
 
 -- "a list that the reader takes, read and written again, has the same bytes"

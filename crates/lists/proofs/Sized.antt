@@ -9,27 +9,11 @@ use lib.Dec.{ltb}
 use borrow.Author.Tests.{ltb-false, eqb-true, not-false}
 use Rattle.figure.specs.declared.Sizes.{Sizes}
 use Rattle.figure.specs.Refusals.{Refusal, firstOf, outside, sizesRefused, mostEngines, mostAddresses, mostDepth, mostActions}
-use Rattle.figure.proofs.First.{Passed, testAt, numberAt, first-at, Numbered, NoneApplies, first-none, none-first}
+use Rattle.figure.proofs.First.{Passed, testAt, numberAt, first-at, Numbered, NoneApplies, first-none, none-first, sizes-numbered, numbered-append, none-split}
 use Rattle.lists.specs.Bytes.{u32At}
 use Rattle.lists.specs.Record.{recordWidth}
 use Rattle.lists.specs.declared.reader.Layout.{Layout}
 use Rattle.lists.specs.Read.{version, headerWidth, versionAt, sizesAt, afterHeader, afterMemory, readRefused, takenAs, layoutOf, readOf}
-use Rattle.lists.proofs.Refused.{sizes-numbered}
-
--- ---- two lists of refusals, one after the other
-pub numbered-append : (rs qs : List Refusal) → Numbered rs → Numbered qs → Numbered (rs ++ qs)
-numbered-append [] qs h k = k
-numbered-append (r ∷ rs) qs h k = (h .0, numbered-append rs qs (h .1) k)
-
-pub none-append : (rs qs : List Refusal) → NoneApplies rs → NoneApplies qs → NoneApplies (rs ++ qs)
-none-append [] qs h k = k
-none-append (r ∷ rs) qs h k = (h .0, none-append rs qs (h .1) k)
-
-pub none-split : (rs qs : List Refusal) → NoneApplies (rs ++ qs) → NoneApplies rs × NoneApplies qs
-none-split [] qs h = (tt, h)
-none-split (r ∷ rs) qs h =
-    let k = none-split rs qs (h .1) in
-    ((h .0, k .0), k .1)
 
 -- ---- the reader refuses exactly if a rule of its list applies
 pub read-numbered : (s : List ℕ) → Numbered (readRefused s)

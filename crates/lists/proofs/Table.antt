@@ -7,20 +7,21 @@ use native.Mathlib.Omega.{arith}
 use lib.ListN.{length, getD, take, set, replicate, length-append, length-replicate}
 use lib.Seq.{take-at}
 use Rattle.figure.specs.Refusals.{mostAddresses}
-use Rattle.lists.specs.Bytes.{u32At, each, padded}
+use Rattle.lists.specs.Bytes.{wordWidth, u32At, padded}
+use Rattle.lists.specs.Codec.{thingsAt, wordCodec}
 use Rattle.lists.specs.declared.reader.Layout.{Layout}
 use Rattle.lists.specs.Read.{readOf, memoryOf, memoryTable}
-use Rattle.lists.proofs.Each.{length-each, getD-each, each-more, padded-more}
+use Rattle.lists.proofs.Things.{length-things, getD-things, things-more, padded-more}
 use Rattle.lists.proofs.Sized.{held}
 
 module _ (s : List ℕ) where
   pub length-memory : length (memoryOf s) ≡ readOf s .sizes .addresses
   unfolding memoryOf
-  length-memory = length-each u32At 4 s (readOf s .«memory_at») (readOf s .sizes .addresses)
+  length-memory = length-things wordCodec s (readOf s .«memory_at») (readOf s .sizes .addresses)
 
   pub getD-memory : (k : ℕ) → k < readOf s .sizes .addresses → getD (memoryOf s) k 0 ≡ u32At s (readOf s .«memory_at» + 4 * k)
   unfolding memoryOf
-  getD-memory k h = getD-each u32At 4 s (readOf s .«memory_at») (readOf s .sizes .addresses) k 0 h
+  getD-memory k h = getD-things wordCodec s (readOf s .«memory_at») (readOf s .sizes .addresses) k 0 h
 
   -- the front of the table, as a part of it is handed on
   pub memory-front : take (readOf s .sizes .addresses) (memoryTable s) ≡ memoryOf s
@@ -44,23 +45,23 @@ pub record Filling (s : List ℕ) (m i : ℕ) (table : List ℕ) (k : ℕ) : Typ
   pub upto : k ≤ m
   pub most : m ≤ mostAddresses
   pub inside : i + 4 * m ≤ length s
-  pub table-is : table ≡ padded mostAddresses (each u32At 4 s i k)
+  pub table-is : table ≡ padded mostAddresses (thingsAt wordCodec s i k)
 
 pub filling-none : (s : List ℕ) (l : Layout) → l ≡ readOf s → Filling s (l .sizes .addresses) (l .«memory_at») (replicate mostAddresses 0) 0
-unfolding each
+unfolding thingsAt
 filling-none s l e =
     let h = held s l e in
     record { upto = zero-le; most = h .addresses-most; inside = omega arith; table-is = refl }
 
 pub filling-more : {s table : List ℕ} {m i k v : ℕ} → Filling s m i table k → k < m → v ≡ u32At s (i + 4 * k) → Filling s m i (set table k v) (k + 1)
 filling-more {s} {table} {m} {i} {k} {v} f h e =
-    let xs = each u32At 4 s i k in
-    let long : length xs ≡ k = length-each u32At 4 s i k in
+    let xs = thingsAt wordCodec s i k in
+    let long : length xs ≡ k = length-things wordCodec s i k in
     record {
       upto = omega arith;
       most = f .most;
       inside = f .inside;
-      table-is = rw (add-one, f .table-is, e, each-more u32At 4 s i k) (ap (λ (n : ℕ). set (padded mostAddresses xs) n (u32At s (i + 4 * k))) (sym long) ∙ padded-more mostAddresses xs (u32At s (i + 4 * k)) (omega (arith, f .most)));
+      table-is = rw (add-one, f .table-is, e, things-more wordCodec s i k) (ap (λ (n : ℕ). set (padded mostAddresses xs) n (u32At s (i + 4 * k))) (sym long) ∙ padded-more mostAddresses xs (u32At s (i + 4 * k)) (omega (arith, f .most)));
     }
 
 pub filling-all : (s : List ℕ) (l : Layout) → l ≡ readOf s → {table : List ℕ} {k : ℕ} → Filling s (l .sizes .addresses) (l .«memory_at») table k → k ≡ l .sizes .addresses → table ≡ memoryTable s

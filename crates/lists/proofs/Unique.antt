@@ -8,7 +8,8 @@ use contract.Lifetimes.{Lfts}
 use denote.Ref.{RefT, now}
 use Rattle.figure.specs.declared.Record.{Record}
 use Rattle.lists.specs.Read.{actionsOf}
-use Rattle.lists.specs.Walk.{handed, Took, Stepped}
+use Rattle.lists.specs.Walk.{handed, Took, WalkerTook}
+use Rattle.lists.specs.declared.line.Line.{Line}
 use Rattle.lists.specs.declared.reader.Layout.{Layout}
 use Rattle.lists.specs.declared.writer.Written.{Written}
 use Rattle.lists.specs.declared.walker.Found.{Found}
@@ -19,6 +20,8 @@ use Rattle.lists.proofs.bytes.get_u32.Reads as get-u32
 use Rattle.lists.proofs.bytes.record_at.Reads as record-at
 use Rattle.lists.proofs.bytes.put_u32.Reads as put-u32
 use Rattle.lists.proofs.bytes.put_record.Reads as put-record
+use Rattle.lists.proofs.line.line_at.Reads as line-at
+use Rattle.lists.proofs.line.put_line.Reads as put-line
 use Rattle.lists.proofs.reader.read.Reads as read
 use Rattle.lists.proofs.memory.memory_of.Reads as memory-of
 use Rattle.lists.proofs.writer.write.Reads as write
@@ -49,6 +52,12 @@ put-u32-unique κs a r r′ e e′ h h′ = h ∙ sym h′
 pub put-record-unique : (κs : Lfts 1) (a : _) (r r′ : _) (e e′ : _) → put-record.Post κs a r e → put-record.Post κs a r′ e′ → now (e .0) ≡ now (e′ .0)
 put-record-unique κs a r r′ e e′ h h′ = h ∙ sym h′
 
+pub line-at-unique : (κs : Lfts 1) (a : _) (r r′ : Line) (e e′ : _) → line-at.Post κs a r e → line-at.Post κs a r′ e′ → r ≡ r′
+line-at-unique κs a r r′ e e′ h h′ = h ∙ sym h′
+
+pub put-line-unique : (κs : Lfts 1) (a : _) (r r′ : _) (e e′ : _) → put-line.Post κs a r e → put-line.Post κs a r′ e′ → now (e .0) ≡ now (e′ .0)
+put-line-unique κs a r r′ e e′ h h′ = h ∙ sym h′
+
 pub read-unique : (κs : Lfts 1) (a : _) (r r′ : Layout) (e e′ : _) → read.Post κs a r e → read.Post κs a r′ e′ → r ≡ r′
 read-unique κs a r r′ e e′ h h′ = h ∙ sym h′
 
@@ -71,7 +80,7 @@ taken-at-unique κs a r r′ e e′ h h′ =
 pub start-unique : (l : RefT (List ℕ)) (r r′ : Walker) → (r .list ≡ l) × (r .place ≡ 0) → (r′ .list ≡ l) × (r′ .place ≡ 0) → r ≡ r′
 start-unique l r r′ h h′ = λ i. record { list = (h .0 ∙ sym (h′ .0)) i; place = (h .1 ∙ sym (h′ .1)) i }
 
-pub next-unique : (w : Walker) (r r′ : Found) (v v′ : Walker) → Stepped w r v → Stepped w r′ v′ → (r ≡ r′) × (v ≡ v′)
+pub next-unique : (w : Walker) (r r′ : Found) (v v′ : Walker) → WalkerTook w r v → WalkerTook w r′ v′ → (r ≡ r′) × (v ≡ v′)
 next-unique w r r′ v v′ h h′ =
     let s = took-same (h .took) (h′ .took) in
     (s .0, λ i. record { list = (h .list-is ∙ sym (h′ .list-is)) i; place = s .1 i })

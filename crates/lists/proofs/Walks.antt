@@ -9,9 +9,10 @@ use lib.ListN.{length, take, drop, length-append}
 use lib.Seq.{take-add, take-all, take-nil, drop-drop}
 use denote.Ref.{now}
 use Rattle.figure.specs.declared.Record.{Record}
-use Rattle.lists.specs.Bytes.{each, rows}
+use Rattle.lists.specs.Bytes.{rows}
+use Rattle.lists.specs.Codec.{thingsAt}
 use Rattle.lists.specs.Read.{readRefused, readOf, layoutOf, actionsOf}
-use Rattle.lists.specs.Walk.{handed, Stepped}
+use Rattle.lists.specs.Walk.{handed, WalkerTook}
 use Rattle.lists.specs.declared.walker.Found.{Found}
 use Rattle.lists.specs.declared.walker.Found.the-variants.{Action, Nothing}
 use Rattle.lists.specs.declared.walker.Walker.{Walker}
@@ -22,7 +23,7 @@ use Rattle.lists.proofs.Actions.{none-left}
 -- calls of `next`, one after another, with what each found
 pub data Calls : Walker → List Found → Walker → Type 0 where
   none : {w : Walker} → Calls w [] w
-  more : {w w′ e : Walker} {found : Found} {fs : List Found} → Stepped w found w′ → Calls w′ fs e → Calls w (found ∷ fs) e
+  more : {w w′ e : Walker} {found : Found} {fs : List Found} → WalkerTook w found w′ → Calls w′ fs e → Calls w (found ∷ fs) e
 
 -- the actions that a walker has not passed
 abbrev pub ahead : Walker → List Record
@@ -33,7 +34,7 @@ empty-front [] e = refl
 empty-front (x ∷ xs) e = let z : _≡_ {A = ℕ} 0 1 = ap length e in absurd (omega arith)
 
 -- a step leaves what was ahead but for what it handed out
-step-front : {w w′ : Walker} {found : Found} → Stepped w found w′ → (n : ℕ) → handed found ++ take n (ahead w′) ≡ take (1 + n) (ahead w)
+step-front : {w w′ : Walker} {found : Found} → WalkerTook w found w′ → (n : ℕ) → handed found ++ take n (ahead w′) ≡ take (1 + n) (ahead w)
 step-front {w} {w′} {found} s n = by-case found (s .took .found-is) (s .took .after-is)
   where
     acts : List Record
@@ -72,7 +73,7 @@ pub record NoneLeft (w : Walker) (found : Found) (w′ : Walker) : Type 0 where
   pub found-is : found ≡ Nothing
   pub place-is : w′ .place ≡ w .place
 
-pub past-the-end : {w w′ : Walker} {found : Found} → Stepped w found w′ → length (actionsOf (now (w .list))) ≤ w .place → NoneLeft w found w′
+pub past-the-end : {w w′ : Walker} {found : Found} → WalkerTook w found w′ → length (actionsOf (now (w .list))) ≤ w .place → NoneLeft w found w′
 past-the-end {w} {w′} {found} s h = by-case found (s .took .found-is ∙ none-left (actionsOf (now (w .list))) (w .place) h) (s .took .after-is)
   where
     by-case : (f : Found) → handed f ≡ [] → w′ .place ≡ w .place + length (handed f) → NoneLeft w f w′
@@ -81,7 +82,7 @@ past-the-end {w} {w′} {found} s h = by-case found (s .took .found-is ∙ none-
 
 -- "over bytes the reader refuses it has none"
 pub refused-none : (s : List ℕ) → ¬ (readOf s .number ≡ 0) → actionsOf s ≡ []
-unfolding readOf layoutOf actionsOf each
+unfolding readOf layoutOf actionsOf thingsAt
 refused-none s h = at (firstOf (readRefused s)) refl
   where
     at : (n : ℕ) → firstOf (readRefused s) ≡ n → actionsOf s ≡ []

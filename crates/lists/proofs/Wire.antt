@@ -8,12 +8,13 @@ use Rattle.figure.specs.declared.Sizes.{Sizes}
 use Rattle.lists.specs.Bytes.{u32Bytes, rows, put, laid}
 use Rattle.lists.specs.Read.{headerWidth, headerBytes, bodyOf, listBytes}
 use Rattle.lists.proofs.Put.{put-front, laid-put}
-use Rattle.lists.proofs.Rows.{length-rows}
+use Rattle.lists.proofs.Codecs.{word-lawful}
+use Rattle.lists.proofs.Things.{length-coded}
 
 module _ (z : Sizes) (memory actions : List ℕ) where
   pub length-body : length (bodyOf z memory actions) ≡ 4 + 4 * length memory + length actions
   unfolding bodyOf
-  length-body = omega (arith, length-append (rows u32Bytes memory) actions, length-rows u32Bytes 4 (λ x. refl) memory)
+  length-body = omega (arith, length-append (rows u32Bytes memory) actions, length-coded word-lawful memory)
 
   pub length-list : length (listBytes z memory actions) ≡ headerWidth + 4 * length memory + length actions
   unfolding listBytes
@@ -29,7 +30,7 @@ module _ (z : Sizes) (memory actions : List ℕ) where
     written-parts {n} {out1} {out2} {out3} en e1 e2 e3 =
         let head = headerBytes n z in
         let words = rows u32Bytes memory in
-        let long : length (head ++ words) ≡ headerWidth + 4 * length memory = omega (arith, length-append head words, length-rows u32Bytes 4 (λ x. refl) memory) in
+        let long : length (head ++ words) ≡ headerWidth + 4 * length memory = omega (arith, length-append head words, length-coded word-lawful memory) in
         let all : length (head ++ words ++ actions) ≤ length out = omega (arith, length-append (head ++ words) actions, length-list) in
         let s1 : out1 ≡ laid head out = e1 ∙ put-front out head (omega (arith, length-list)) in
         let s2 : out2 ≡ laid (head ++ words) out = e2 ∙ rw (s1) (laid-put head words out (omega (arith, length-list))) in

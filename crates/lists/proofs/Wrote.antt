@@ -6,14 +6,14 @@ use native.Mathlib.Omega.{arith}
 use lib.ListN.{length}
 use borrow.Author.Tests.{ltb-false, le-ltb, eqb-true, not-false}
 use Rattle.figure.specs.declared.Sizes.{Sizes}
-use Rattle.figure.specs.Refusals.{firstOf, sizesRefused, mostAddresses, mostActions}
-use Rattle.figure.proofs.First.{Numbered, NoneApplies, first-none, none-first, same-not}
+use Rattle.figure.specs.Refusals.{firstOf, unless, sizesRefused, mostAddresses, mostActions}
+use Rattle.figure.proofs.First.{Numbered, NoneApplies, first-none, none-first, sizes-numbered, numbered-append, none-append, none-split, same-not}
 use Rattle.lists.specs.Bytes.{laid}
 use Rattle.lists.specs.Record.{recordWidth}
 use Rattle.lists.specs.Read.{headerWidth, listBytes}
-use Rattle.lists.specs.Write.{writeRefused, unless, bytesWritten, Wrote}
-use Rattle.lists.proofs.Refused.{sizes-numbered, partsRefused}
-use Rattle.lists.proofs.Sized.{numbered-append, none-append, none-split, InRange, in-range}
+use Rattle.lists.specs.Write.{writeRefused, bytesWritten, Wrote}
+use Rattle.lists.proofs.Refused.{partsRefused}
+use Rattle.lists.proofs.Sized.{InRange, in-range}
 use Rattle.lists.proofs.Put.{laid-none}
 use Rattle.lists.proofs.Wire.{length-list}
 
@@ -54,9 +54,9 @@ module _ (z : Sizes) (memory actions : List ℕ) (room : ℕ) where
   pub none-write : NoneApplies (writeRefused z memory actions room) → firstOf (writeRefused z memory actions room) ≡ 0
   none-write = first-none (writeRefused z memory actions room)
 
-  pub accepts : firstOf (sizesRefused z) ≡ 0 → length memory ≡ z .addresses → length actions % recordWidth ≡ 0 → length actions / recordWidth ≤ mostActions → length (listBytes z memory actions) ≤ room → firstOf (writeRefused z memory actions room) ≡ 0
+  pub write-accepts : firstOf (sizesRefused z) ≡ 0 → length memory ≡ z .addresses → length actions % recordWidth ≡ 0 → length actions / recordWidth ≤ mostActions → length (listBytes z memory actions) ≤ room → firstOf (writeRefused z memory actions room) ≡ 0
   unfolding writeRefused
-  accepts pass many even few fits =
+  write-accepts pass many even few fits =
       none-write
       (none-append (sizesRefused z) (partsRefused z memory actions room) (none-first (sizesRefused z) (sizes-numbered z) pass)
       (same-not (length memory) (z .addresses) many, (same-not (length actions % recordWidth) 0 even, (le-ltb mostActions (length actions / recordWidth) few, (le-ltb room (length (listBytes z memory actions)) fits, tt)))))
@@ -69,12 +69,12 @@ not-judged z memory actions actions′ room e =
     rw (n, e)
 
 -- how long a list that can be written is, and that it fits
-pub record Counted (memory actions : List ℕ) (room : ℕ) : Type 0 where
+pub record ListFits (memory actions : List ℕ) (room : ℕ) : Type 0 where
   pub total-fits : headerWidth + 4 * length memory + length actions ≤ room
   pub small : headerWidth + 4 * length memory + length actions ≤ headerWidth + 4 * mostAddresses + recordWidth * mostActions
 
-pub counted : (z : Sizes) (memory actions : List ℕ) (room : ℕ) → firstOf (writeRefused z memory actions room) ≡ 0 → Counted memory actions room
-counted z memory actions room h =
+pub list-fits : (z : Sizes) (memory actions : List ℕ) (room : ℕ) → firstOf (writeRefused z memory actions room) ≡ 0 → ListFits memory actions room
+list-fits z memory actions room h =
     let w = writable z memory actions room h in
     record {
       total-fits = omega (arith, length-list z memory actions, w .fits);

@@ -1,6 +1,6 @@
 -- Numbers in a list of bytes, most significant byte first, and bytes put into a buffer. Assumes nothing.
 use mathlib.Core.List.{List, [], _∷_, _++_}
-use Prim.Native.Nat.{ℕ, zero, suc, _+_, _-_, _*_, _/_, _%_, _<_}
+use Prim.Native.Nat.{ℕ, _+_, _-_, _*_, _/_, _%_, _<_}
 use lib.ListN.{length, getD, take, drop, replicate}
 use lib.Dec.{leb}
 use Rattle.figure.specs.Refusals.{pick}
@@ -21,14 +21,13 @@ numberOf a b c d = a * 16777216 + b * 65536 + c * 256 + d
 unfoldable pub u32At : List ℕ → ℕ → ℕ
 u32At s i = numberOf (byteAt s i) (byteAt s (i + 1)) (byteAt s (i + 2)) (byteAt s (i + 3))
 
+-- how many bytes a number has
+abbrev pub wordWidth : ℕ
+wordWidth = 4
+
 -- the four bytes of x, big-endian
 abbrev pub u32Bytes : ℕ → List ℕ
 u32Bytes x = x / 16777216 ∷ x / 65536 % 256 ∷ x / 256 % 256 ∷ x % 256 ∷ []
-
--- n things of w bytes each, from place i on
-unfoldable pub each : {A : Type 0} → (List ℕ → ℕ → A) → ℕ → List ℕ → ℕ → ℕ → List A
-each get w s i zero = []
-each get w s i (suc n) = get s i ∷ each get w s (i + w) n
 
 -- the row of each thing, one after another
 unfoldable pub rows : {A B : Type 0} → (A → List B) → List A → List B

@@ -7,8 +7,9 @@ use lib.Dec.{ltb, eqb}
 use Rattle.figure.specs.declared.Sizes.{Sizes}
 use Rattle.figure.specs.declared.Record.{Record}
 use Rattle.figure.specs.Refusals.{Refusal, _when_, firstOf, sizesRefused, mostAddresses, mostActions}
-use Rattle.lists.specs.Bytes.{byteAt, u32At, u32Bytes, each, rows, padded}
-use Rattle.lists.specs.Record.{recordWidth, recordAt}
+use Rattle.lists.specs.Bytes.{wordWidth, byteAt, u32At, u32Bytes, rows, padded}
+use Rattle.lists.specs.Codec.{thingsAt, wordCodec}
+use Rattle.lists.specs.Record.{recordWidth, recordCodec}
 use Rattle.lists.specs.declared.reader.Layout.{Layout}
 
 -- "Then one version byte, 1."
@@ -45,16 +46,16 @@ abbrev pub afterHeader : List ℕ → ℕ
 afterHeader s = length s - headerWidth
 
 abbrev pub afterMemory : List ℕ → ℕ
-afterMemory s = afterHeader s - 4 * sizesAt s .addresses
+afterMemory s = afterHeader s - wordWidth * sizesAt s .addresses
 
 -- "Reader, in this order: 1 fewer than 8 bytes; 2 length field differs from total minus 4; 3 version; 4 engines; 5 addresses; 6 depth; 7 less than 4m bytes after the first 8; 8 the rest no multiple of 8; 9 more than 2,048 actions."
 unfoldable pub readRefused : List ℕ → List Refusal
 readRefused s =
     1 when ltb (length s) headerWidth
-    ∷ 2 when not (eqb (u32At s 0) (length s - 4))
+    ∷ 2 when not (eqb (u32At s 0) (length s - wordWidth))
     ∷ 3 when not (eqb (versionAt s) version)
     ∷ sizesRefused (sizesAt s)
-    ++ 7 when ltb (afterHeader s) (4 * sizesAt s .addresses)
+    ++ 7 when ltb (afterHeader s) (wordWidth * sizesAt s .addresses)
     ∷ 8 when not (eqb (afterMemory s % recordWidth) 0)
     ∷ 9 when ltb mostActions (afterMemory s / recordWidth)
     ∷ []
@@ -67,7 +68,7 @@ refusedAs n =
 -- "The reader gives the sizes and where memory and actions begin"
 abbrev pub takenAs : List ℕ → Layout
 takenAs s =
-    record { number = 0; sizes = sizesAt s; «memory_at» = headerWidth; «actions_at» = headerWidth + 4 * sizesAt s .addresses; actions = afterMemory s / recordWidth }
+    record { number = 0; sizes = sizesAt s; «memory_at» = headerWidth; «actions_at» = headerWidth + wordWidth * sizesAt s .addresses; actions = afterMemory s / recordWidth }
 
 unfoldable pub layoutOf : ℕ → List ℕ → Layout
 layoutOf zero s = takenAs s
@@ -80,11 +81,11 @@ readOf s = layoutOf (firstOf (readRefused s)) s
 
 -- its m memory values
 unfoldable pub memoryOf : List ℕ → List ℕ
-memoryOf s = each u32At 4 s (readOf s .«memory_at») (readOf s .sizes .addresses)
+memoryOf s = thingsAt wordCodec s (readOf s .«memory_at») (readOf s .sizes .addresses)
 
 -- its actions, and their bytes
 unfoldable pub actionsOf : List ℕ → List Record
-actionsOf s = each recordAt recordWidth s (readOf s .«actions_at») (readOf s .actions)
+actionsOf s = thingsAt recordCodec s (readOf s .«actions_at») (readOf s .actions)
 
 unfoldable pub actionBytesOf : List ℕ → List ℕ
 actionBytesOf s = take (recordWidth * readOf s .actions) (drop (readOf s .«actions_at») s)

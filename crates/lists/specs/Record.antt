@@ -3,6 +3,7 @@ use mathlib.Core.List.{List, _∷_}
 use Prim.Native.Nat.{ℕ, _+_}
 use Rattle.figure.specs.declared.Record.{Record}
 use Rattle.lists.specs.Bytes.{byteAt, u32At, u32Bytes}
+use Rattle.lists.specs.Codec.{Codec}
 
 -- how many bytes a record has
 abbrev pub recordWidth : ℕ
@@ -19,3 +20,6 @@ recordAt s i =
 -- the record that the list's first bytes are
 abbrev pub recordOf : List ℕ → Record
 recordOf bytes = recordAt bytes 0
+
+abbrev pub recordCodec : Codec Record
+recordCodec = record { width = recordWidth; bytes = recordBytes; reads = recordAt }

@@ -26,6 +26,6 @@ pub record Took (s : List ℕ) (place : ℕ) (found : Found) (after : ℕ) : Typ
   pub after-is : after ≡ place + length (handed found)
 
 -- a step of a walker: over the same bytes
-pub record Stepped (w : Walker) (found : Found) (w′ : Walker) : Type 0 where
+pub record WalkerTook (w : Walker) (found : Found) (w′ : Walker) : Type 0 where
   pub list-is : w′ .list ≡ w .list
   pub took : Took (now (w .list)) (w .place) found (w′ .place)

@@ -2,11 +2,11 @@
 use mathlib.Core.Path.{_≡_}
 use mathlib.Core.List.{List, [], _∷_, _++_}
 use mathlib.Core.Bool.{not}
-use Prim.Native.Nat.{ℕ, zero, suc, _/_, _%_}
+use Prim.Native.Nat.{ℕ, _/_, _%_}
 use lib.ListN.{length}
 use lib.Dec.{ltb, eqb}
 use Rattle.figure.specs.declared.Sizes.{Sizes}
-use Rattle.figure.specs.Refusals.{Refusal, _when_, firstOf, sizesRefused, mostActions}
+use Rattle.figure.specs.Refusals.{Refusal, _when_, firstOf, unless, sizesRefused, mostActions}
 use Rattle.lists.specs.Bytes.{laid}
 use Rattle.lists.specs.Record.{recordWidth}
 use Rattle.lists.specs.Read.{listBytes}
@@ -22,15 +22,10 @@ writeRefused z memory actions room =
     ∷ 30 when ltb room (length (listBytes z memory actions))
     ∷ []
 
--- the bytes where the number is 0, none on a refusal
-unfoldable pub unless : ℕ → List ℕ → List ℕ
-unless zero bytes = bytes
-unless (suc n) bytes = []
-
 -- what is written over the output's front
 unfoldable pub bytesWritten : Sizes → List ℕ → List ℕ → ℕ → List ℕ
 bytesWritten z memory actions room =
-    unless (firstOf (writeRefused z memory actions room)) (listBytes z memory actions)
+    unless (firstOf (writeRefused z memory actions room)) (listBytes z memory actions) []
 
 -- "answers with the list's length, 0 on a refusal"
 pub record Wrote (z : Sizes) (memory actions old : List ℕ) (r : Written) (new : List ℕ) : Type 0 where

@@ -2,7 +2,9 @@
 ghost use mathlib.Core.Path.{_≡_};
 ghost use Rattle.lists.specs.Read.{refusedAs, readOf};
 use crate::bytes::RECORD;
+use crate::bytes::WORD;
 use crate::bytes::get_u32;
+use figure::ADDRESSES;
 use figure::Sizes;
 use figure::judge_sizes;
 
@@ -12,6 +14,9 @@ pub const HEADER: usize = 8;
 pub const VERSION: u8 = 1;
 
 pub const MOST_ACTIONS: usize = 2048;
+
+// The header, the most memory values and the most actions: 16,648 bytes.
+pub const MOST_LIST: usize = HEADER + WORD * ADDRESSES + RECORD * MOST_ACTIONS;
 
 // What the reader finds: its number, and all else 0 where it refuses.
 pub struct Layout {
@@ -48,7 +53,7 @@ pub fn read(s: &[u8]) -> Layout
         return refused(1);
     }
     let said = get_u32(s, 0) as usize;
-    if said != total - 4 {
+    if said != total - WORD {
         return refused(2);
     }
     if s[4] != VERSION {
@@ -65,10 +70,10 @@ pub fn read(s: &[u8]) -> Layout
     }
     let m = sizes.addresses as usize;
     let rest = total - HEADER;
-    if rest < 4 * m {
+    if rest < WORD * m {
         return refused(7);
     }
-    let left = rest - 4 * m;
+    let left = rest - WORD * m;
     if left % RECORD != 0 {
         return refused(8);
     }
@@ -80,7 +85,7 @@ pub fn read(s: &[u8]) -> Layout
         number: 0,
         sizes,
         memory_at: HEADER,
-        actions_at: HEADER + 4 * m,
+        actions_at: HEADER + WORD * m,
         actions,
     }
 }

@@ -2,7 +2,7 @@
 ghost use mathlib.Core.Path.{_≡_};
 ghost use lib.ListN.{length, take, drop};
 ghost use Rattle.lists.specs.Read.{actionsOf};
-ghost use Rattle.lists.specs.Walk.{handed, isAction, Took, Stepped};
+ghost use Rattle.lists.specs.Walk.{handed, isAction, Took, WalkerTook};
 use crate::bytes::RECORD;
 use crate::bytes::record_at;
 use crate::reader::read;
@@ -63,7 +63,7 @@ pub fn start<'a>(list: &'a [u8]) -> Walker<'a>
 }
 
 pub fn next<'s, 'a>(w: &'s mut Walker<'a>) -> Found
-    ensures { λ r. ⌜ Stepped (now (w .entry)) r (now (w .exit)) ⌝ }
+    ensures { λ r. ⌜ WalkerTook (now (w .entry)) r (now (w .exit)) ⌝ }
 {
     let t = taken_at(w.list, w.place);
     w.place = t.after;

@@ -3,10 +3,11 @@ ghost use mathlib.Core.Path.{_≡_};
 ghost use Prim.Native.Nat.{_+_, _*_, _≤_};
 ghost use lib.ListN.{length};
 ghost use Rattle.figure.specs.Refusals.{firstOf};
-ghost use Rattle.lists.specs.Bytes.{u32Bytes, rows, put};
+ghost use Rattle.lists.specs.Bytes.{wordWidth, u32Bytes, rows, put};
 ghost use Rattle.lists.specs.Read.{headerWidth, headerBytes};
 ghost use Rattle.lists.specs.Write.{writeRefused, Wrote};
 use crate::bytes::RECORD;
+use crate::bytes::WORD;
 use crate::bytes::put_four;
 use crate::bytes::put_u32;
 use crate::reader::HEADER;
@@ -39,7 +40,7 @@ fn judge(sizes: Sizes, memory: &[u32], actions: &[u8], room: usize) -> u8
     if actions.len() / RECORD > MOST_ACTIONS {
         return 9;
     }
-    if room < HEADER + 4 * m + actions.len() {
+    if room < HEADER + WORD * m + actions.len() {
         return 30;
     }
     0
@@ -55,12 +56,12 @@ fn put_header(out: &mut [u8], after: u32, sizes: Sizes)
 }
 
 fn put_words(words: &[u32], out: &mut [u8], at: usize)
-    requires { ⌜ at + 4 * length (now words) ≤ length (now out) ⌝ }
+    requires { ⌜ at + wordWidth * length (now words) ≤ length (now out) ⌝ }
     ensures { λ _. ⌜ now (out .exit) ≡ put (now (out .entry)) at (rows u32Bytes (now (words .entry))) ⌝ }
 {
     let mut k = 0;
     while k < words.len() {
-        put_u32(out, at + 4 * k, words[k]);
+        put_u32(out, at + WORD * k, words[k]);
         k += 1;
     }
 }
@@ -84,9 +85,9 @@ pub fn write(sizes: Sizes, memory: &[u32], actions: &[u8], out: &mut [u8]) -> Wr
     if number != 0 {
         return Written { number, length: 0 };
     }
-    let actions_at = HEADER + 4 * memory.len();
+    let actions_at = HEADER + WORD * memory.len();
     let total = actions_at + actions.len();
-    put_header(out, (total - 4) as u32, sizes);
+    put_header(out, (total - WORD) as u32, sizes);
     put_words(memory, out, HEADER);
     put_bytes(actions, out, actions_at);
     Written {

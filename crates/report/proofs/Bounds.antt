@@ -8,11 +8,12 @@ use lib.Dec.{eqb}
 use lib.ListN.{length, length-append}
 use Rattle.figure.specs.Refusals.{pick, mostActions}
 use Rattle.lists.specs.Bytes.{Bytes, u32At}
+use Rattle.lists.specs.Line.{lineWidth, lineAt, noNumber}
 use Rattle.demands.specs.declared.Counts.{Counts}
 use Rattle.report.specs.Text.{ascii, newline, series}
 use Rattle.report.specs.Decimal.{decimal, field, labelled}
 use Rattle.report.specs.Hex.{hexByte, hexWord, traceText, traceTextLength}
-use Rattle.report.specs.Account.{accountWidth, unpublished, eventAt, markAt, markField, kindField, eventFields, accountLine, countsLine, refusedLine, shown, accountText, mostAccountText}
+use Rattle.report.specs.Events.{markField, kindField, eventFields, accountLine, countsLine, refusedLine, shown, accountText, mostAccountText}
 use Rattle.report.proofs.Digits.{length-decimal}
 use Rattle.report.proofs.Series.{length-series}
 
@@ -51,7 +52,7 @@ place-digits k h = length-decimal 3 (k + 1) (omega arith)
 -- ---- a line of the account
 length-mark : (mark : ℕ) → mark < 2 ^ 32 → length (markField mark) ≤ 11
 unfolding markField
-length-mark mark h = at (eqb mark unpublished)
+length-mark mark h = at (eqb mark noNumber)
   where
     at : (t : Bool) → length (pick t (ascii " -") (field mark)) ≤ 11
     at true = omega arith
@@ -68,28 +69,28 @@ length-kind kind = at (eqb kind 1)
 length-four : (a b c d e : List ℕ) → length (a ++ b ++ c ++ d ++ e) ≡ length a + length b + length c + length d + length e
 length-four a b c d e = simp length-append
 
-length-event : (account : List ℕ) (k : ℕ) → Bytes account → length (eventFields (eventAt account k)) ≤ 22
+length-event : (account : List ℕ) (k : ℕ) → Bytes account → length (eventFields (lineAt account (lineWidth * k) .event)) ≤ 22
 unfolding eventFields
 length-event account k b =
-    let e = eventAt account k in
-    let at = accountWidth * k in
+    let at = lineWidth * k in
+    let e = lineAt account at .event in
     omega (arith, length-four (kindField (e .kind)) (field (e .engine .0)) (field (e .address .0)) (field (e .«data»)) newline, length-kind (e .kind), byte-field (e .engine .0) (b (at + 1)), byte-field (e .address .0) (b (at + 3)), word-field (e .«data») (word-below account (at + 4) b))
 
 pub length-line : (account : List ℕ) (k : ℕ) → Bytes account → k < mostActions → length (accountLine account k) ≤ 37
 unfolding accountLine
 length-line account k b h =
-    let mark = markAt account k in
-    omega (arith, length-append (decimal (k + 1) ++ markField mark) (eventFields (eventAt account k)), length-append (decimal (k + 1)) (markField mark), place-digits k h, length-mark mark (word-below account _ b), length-event account k b)
+    let mark = lineAt account (lineWidth * k) .number .0 in
+    omega (arith, length-append (decimal (k + 1) ++ markField mark) (eventFields (lineAt account (lineWidth * k) .event)), length-append (decimal (k + 1)) (markField mark), place-digits k h, length-mark mark (word-below account _ b), length-event account k b)
 
 -- ---- the counts
-pub record Counted (c : Counts) : Type 0 where
+pub record CountsFit (c : Counts) : Type 0 where
   pub number-small : c .number < 2 ^ 8
   pub accepted-fits : c .accepted < 2 ^ 64
   pub refused-fits : c .refused < 2 ^ 64
   pub events-fits : c .events < 2 ^ 64
   pub settled-fits : c .settled < 2 ^ 64
 
-pub length-counts : (c : Counts) → Counted c → length (countsLine c) ≤ 116
+pub length-counts : (c : Counts) → CountsFit c → length (countsLine c) ≤ 116
 unfolding countsLine
 length-counts c h =
     let a = labelled (ascii "accepted ") (c .accepted) in
@@ -103,9 +104,9 @@ unfolding refusedLine
 length-refused number h =
     omega (arith, length-append (labelled (ascii "refused ") number) newline, length-labelled (ascii "refused ") number, byte-digits number h)
 
-pub length-account : (c : Counts) (account : List ℕ) → Counted c → Bytes account → length (accountText c account) ≤ mostAccountText
+pub length-account-text : (c : Counts) (account : List ℕ) → CountsFit c → Bytes account → length (accountText c account) ≤ mostAccountText
 unfolding accountText
-length-account c account h b = at (eqb (c .number) 0)
+length-account-text c account h b = at (eqb (c .number) 0)
   where
     few : shown c ≤ mostActions
     few = omega arith
@@ -118,6 +119,6 @@ length-account c account h b = at (eqb (c .number) 0)
     at false = omega (arith, length-refused (c .number) (h .number-small))
 
 -- ---- the line of a trace
-pub length-trace : (hash : ℕ) → length (traceText hash) ≡ traceTextLength
+pub length-trace-text : (hash : ℕ) → length (traceText hash) ≡ traceTextLength
 unfolding traceText hexWord hexByte
-length-trace hash = refl
+length-trace-text hash = refl

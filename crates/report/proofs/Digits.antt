@@ -51,19 +51,19 @@ length-decimal (suc k) n h = at (ltb n 10) refl (length-decimal k (n / 10))
         omega (arith, length-high n big, f (omega arith))
 
 -- ---- the loop of `count_digits`
-pub record Counting (n count rest : ℕ) : Type 0 where
+pub record CountingDigits (n count rest : ℕ) : Type 0 where
   pub small : count + rest ≤ n + 1
   pub left : length (decimal n) + 1 ≡ count + length (decimal rest)
 
-pub counting-none : (n : ℕ) → Counting n 1 n
-counting-none n = record { small = omega arith; left = omega arith }
+pub counting-digits-none : (n : ℕ) → CountingDigits n 1 n
+counting-digits-none n = record { small = omega arith; left = omega arith }
 
-pub counting-more : {n count rest : ℕ} → Counting n count rest → 9 < rest → Counting n (count + 1) (rest / 10)
-counting-more {n} {count} {rest} c h =
+pub counting-digits-more : {n count rest : ℕ} → CountingDigits n count rest → 9 < rest → CountingDigits n (count + 1) (rest / 10)
+counting-digits-more {n} {count} {rest} c h =
     record { small = omega (arith, c .small); left = omega (arith, c .left, length-high rest h) }
 
-pub counting-all : {n count rest : ℕ} → Counting n count rest → rest ≤ 9 → count ≡ length (decimal n)
-counting-all {n} {count} {rest} c h = omega (arith, c .left, length-low rest (omega arith))
+pub counting-digits-all : {n count rest : ℕ} → CountingDigits n count rest → rest ≤ 9 → count ≡ length (decimal n)
+counting-digits-all {n} {count} {rest} c h = omega (arith, c .left, length-low rest (omega arith))
 
 -- ---- the last k digits of n, with zeros in front where it has fewer
 unfoldable pub lastDigits : ℕ → ℕ → List ℕ

@@ -3,18 +3,19 @@ use mathlib.Core.Path.{_≡_}
 use mathlib.Core.List.{List, _++_}
 use Prim.Native.Nat.{ℕ}
 use borrow.Author.Tests.{eq-eqb, ne-eqb}
+use Rattle.lists.specs.Line.{noNumber}
 use Rattle.demands.specs.declared.Counts.{Counts}
 use Rattle.report.specs.Text.{ascii, series}
 use Rattle.report.specs.Decimal.{field}
-use Rattle.report.specs.Account.{unpublished, markField, kindField, accountLine, countsLine, refusedLine, shown, accountText}
+use Rattle.report.specs.Events.{markField, kindField, accountLine, countsLine, refusedLine, shown, accountText}
 
-pub mark-none : (mark : ℕ) → mark ≡ unpublished → markField mark ≡ ascii " -"
+pub mark-none : (mark : ℕ) → mark ≡ noNumber → markField mark ≡ ascii " -"
 unfolding markField
-mark-none mark e = rw (eq-eqb mark unpublished e)
+mark-none mark e = rw (eq-eqb mark noNumber e)
 
-pub mark-some : (mark : ℕ) → ¬ (mark ≡ unpublished) → markField mark ≡ field mark
+pub mark-some : (mark : ℕ) → ¬ (mark ≡ noNumber) → markField mark ≡ field mark
 unfolding markField
-mark-some mark e = rw (ne-eqb mark unpublished e)
+mark-some mark e = rw (ne-eqb mark noNumber e)
 
 pub kind-read : (kind : ℕ) → kind ≡ 1 → kindField kind ≡ ascii " R"
 unfolding kindField

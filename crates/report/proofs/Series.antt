@@ -9,8 +9,8 @@ use native.Mathlib.Omega.{arith}
 use lib.Dec.{ltb}
 use lib.ListN.{length, length-append}
 use borrow.Author.Tests.{ltb-true, ltb-false}
-use Rattle.report.specs.Text.{written, series, Wrote, Room}
-use Rattle.report.proofs.Written.{wrote-append, wrote-long}
+use Rattle.report.specs.Text.{written, series, Printed, Room}
+use Rattle.report.proofs.Written.{printed-append, printed-long}
 
 module _ (f : ℕ → List ℕ) where
   length-more : (n : ℕ) → length (series f (suc n)) ≡ length (series f n) + length (f n)
@@ -38,7 +38,7 @@ module _ (f : ℕ → List ℕ) where
 pub record Lining (f : ℕ → List ℕ) (n : ℕ) (old : List ℕ) (i : ℕ) (out : List ℕ) (next k : ℕ) : Type 0 where
   pub upto : k ≤ n
   pub room : Room i (series f n)
-  pub wrote : Wrote (series f k) old i next out
+  pub wrote : Printed (series f k) old i next out
 
 module _ {f : ℕ → List ℕ} {n : ℕ} {old : List ℕ} {i : ℕ} where
   pub lining-none : Room i (series f n) → Lining f n old i old i 0
@@ -48,15 +48,15 @@ module _ {f : ℕ → List ℕ} {n : ℕ} {old : List ℕ} {i : ℕ} where
   pub lining-room : {out : List ℕ} {next k : ℕ} → Lining f n old i out next k → k < n → Room next (f k)
   lining-room {out} {next} {k} l h = record { fits = omega (arith, l .room .fits, l .wrote .place, length-part f n k h) }
 
-  pub lining-more : {out out′ : List ℕ} {next r k : ℕ} → Lining f n old i out next k → k < n → Wrote (f k) out next r out′ → Lining f n old i out′ r (k + 1)
+  pub lining-more : {out out′ : List ℕ} {next r k : ℕ} → Lining f n old i out next k → k < n → Printed (f k) out next r out′ → Lining f n old i out′ r (k + 1)
   unfolding series
   lining-more {out} {out′} {next} {r} {k} l h w =
-      record { upto = omega arith; room = l .room; wrote = rw (add-one k) (wrote-append (l .wrote) w) }
+      record { upto = omega arith; room = l .room; wrote = rw (add-one k) (printed-append (l .wrote) w) }
 
   pub lining-long : {out : List ℕ} {next k : ℕ} → Lining f n old i out next k → length out ≡ length old
-  lining-long l = wrote-long (l .wrote)
+  lining-long l = printed-long (l .wrote)
 
-  pub lining-all : {out : List ℕ} {next k : ℕ} → Lining f n old i out next k → n ≤ k → Wrote (series f n) old i next out
+  pub lining-all : {out : List ℕ} {next k : ℕ} → Lining f n old i out next k → n ≤ k → Printed (series f n) old i next out
   lining-all {out} {next} {k} l h =
       let e : n ≡ k = omega (arith, l .upto) in
       rw (e) (l .wrote)

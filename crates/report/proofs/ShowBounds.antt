@@ -9,19 +9,19 @@ use lib.ListN.{length, getD, replicate, length-append, List·getD-append}
 use Rattle.figure.specs.declared.Record.{Record}
 use Rattle.figure.specs.declared.Sizes.{Sizes}
 use Rattle.figure.specs.Refusals.{pick, firstOf, mostAddresses, mostActions}
-use Rattle.lists.specs.Bytes.{Bytes, u32At, each}
+use Rattle.lists.specs.Bytes.{Bytes, wordWidth, u32At}
 use Rattle.lists.specs.Record.{recordWidth, recordAt}
 use Rattle.lists.specs.Read.{readRefused, layoutOf, readOf, memoryOf, memoryTable}
-use Rattle.lists.proofs.Each.{length-each, getD-each}
+use Rattle.lists.proofs.Table.{length-memory, getD-memory}
 use Rattle.lists.proofs.Sized.{held}
 use Rattle.demands.specs.declared.Counts.{Counts}
 use Rattle.report.specs.Text.{ascii, newline, series}
 use Rattle.report.specs.Decimal.{decimal, field, labelled}
 use Rattle.report.specs.Hex.{hexByte}
-use Rattle.report.specs.Account.{accountText, refusedLine}
-use Rattle.report.specs.Show.{sizesText, valueField, headLine, kindName, showsAddress, showsData, fieldWhen, actionText, wellFormed, noAnswer, okWhen, answerText, refusalText, outcomeText, byteField, bytesText, stepText, stepLine, stepLines, showText, mostShowText}
+use Rattle.report.specs.Events.{accountText, refusedLine}
+use Rattle.report.specs.Actions.{sizesText, valueField, headLine, kindName, showsAddress, showsData, fieldWhen, actionText, wellFormed, noAnswer, okWhen, answerText, refusalText, outcomeText, byteField, bytesText, stepText, stepLine, stepLines, showText, mostShowText}
 use Rattle.report.proofs.Series.{length-series}
-use Rattle.report.proofs.Bounds.{Counted, length-labelled, byte-digits, byte-field, word-field, word-below, place-digits, length-refused, length-account}
+use Rattle.report.proofs.Bounds.{CountsFit, length-labelled, byte-digits, byte-field, word-field, word-below, place-digits, length-refused, length-account-text}
 
 -- ---- the head
 pub record SmallSizes (z : Sizes) : Type 0 where
@@ -45,13 +45,9 @@ length-sizes z h =
     let d = labelled (ascii " depth ") (z .depth) in
     omega (arith, length-append (e ++ a ++ d) (ascii " memory"), length-append (e ++ a) d, length-append e a, length-labelled (ascii "engines ") (z .engines), length-labelled (ascii " addresses ") (z .addresses), length-labelled (ascii " depth ") (z .depth), byte-digits (z .engines) (h .engines-small), byte-digits (z .addresses) (h .addresses-small), byte-digits (z .depth) (h .depth-small))
 
-value-is : (list : List ℕ) (k : ℕ) → k < readOf list .sizes .addresses → getD (memoryTable list) k 0 ≡ u32At list (readOf list .«memory_at» + 4 * k)
-unfolding memoryOf
+value-is : (list : List ℕ) (k : ℕ) → k < readOf list .sizes .addresses → getD (memoryTable list) k 0 ≡ u32At list (readOf list .«memory_at» + wordWidth * k)
 value-is list k h =
-    let i = readOf list .«memory_at» in
-    let m = readOf list .sizes .addresses in
-    let xs = each u32At 4 list i m in
-    List·getD-append xs (replicate (mostAddresses - length xs) 0) 0 k (omega (arith, length-each u32At 4 list i m)) ∙ getD-each u32At 4 list i m k 0 h
+    List·getD-append (memoryOf list) (replicate (mostAddresses - length (memoryOf list)) 0) 0 k (omega (arith, length-memory list)) ∙ getD-memory list k h
 
 value-below : (list : List ℕ) (k : ℕ) → Bytes list → k < readOf list .sizes .addresses → length (valueField (memoryTable list) k) ≤ 11
 value-below list k b h = word-field (getD (memoryTable list) k 0) (rw (value-is list k h) (word-below list _ b))
@@ -87,16 +83,16 @@ length-ok true = omega arith
 length-ok false = omega arith
 
 -- the fields of a record that is made of bytes
-pub record Small (r : Record) : Type 0 where
+pub record SmallFields (r : Record) : Type 0 where
   pub engine-small : r .engine .0 < 2 ^ 8
   pub origin-small : r .origin .0 < 2 ^ 8
   pub address-small : r .address .0 < 2 ^ 8
   pub data-small : r .«data» < 2 ^ 32
 
-small : (s : List ℕ) (i : ℕ) → Bytes s → Small (recordAt s i)
+small : (s : List ℕ) (i : ℕ) → Bytes s → SmallFields (recordAt s i)
 small s i b = record { engine-small = b (i + 1); origin-small = b (i + 2); address-small = b (i + 3); data-small = word-below s (i + 4) b }
 
-length-action : (a : Record) → Small a → length (actionText a) ≤ 22
+length-action : (a : Record) → SmallFields a → length (actionText a) ≤ 22
 unfolding actionText
 length-action a h =
     let n = kindName (a .kind) in
@@ -105,11 +101,11 @@ length-action a h =
     let d = fieldWhen (showsData (a .kind)) (a .«data») in
     omega (arith, length-append (n ++ e ++ x) d, length-append (n ++ e) x, length-append n e, length-name (a .kind), byte-field (a .engine .0) (h .engine-small), length-when (showsAddress (a .kind)) (a .address .0) 4 (byte-field (a .address .0) (h .address-small)), length-when (showsData (a .kind)) (a .«data») 11 (word-field (a .«data») (h .data-small)))
 
-length-refusal : (e : Record) → Small e → length (refusalText e) ≤ 15
+length-refusal : (e : Record) → SmallFields e → length (refusalText e) ≤ 15
 unfolding refusalText
 length-refusal e h = omega (arith, length-labelled (ascii " -> refused ") (e .engine .0), byte-digits (e .engine .0) (h .engine-small))
 
-length-answer : (k : ℕ) (e : Record) → Small e → length (answerText k e) ≤ 25
+length-answer : (k : ℕ) (e : Record) → SmallFields e → length (answerText k e) ≤ 25
 unfolding answerText
 length-answer k e h =
     let w = ascii " ->" in
@@ -119,7 +115,7 @@ length-answer k e h =
     let y = okWhen (noAnswer k) in
     omega (arith, length-append (w ++ o ++ x ++ d) y, length-append (w ++ o ++ x) d, length-append (w ++ o) x, length-append w o, length-when (eqb k 5) (e .origin .0) 4 (byte-field (e .origin .0) (h .origin-small)), length-when (not (showsAddress k)) (e .address .0) 4 (byte-field (e .address .0) (h .address-small)), length-when (not (noAnswer k)) (e .«data») 11 (word-field (e .«data») (h .data-small)), length-ok (noAnswer k))
 
-length-outcome : (k : ℕ) (e : Record) → Small e → length (outcomeText k e) ≤ 25
+length-outcome : (k : ℕ) (e : Record) → SmallFields e → length (outcomeText k e) ≤ 25
 unfolding outcomeText
 length-outcome k e h = at (eqb (e .kind) 0)
   where
@@ -132,7 +128,7 @@ unfolding bytesText hexByte
 length-bytes list i =
     omega (arith, length-append (ascii " bytes") (series (byteField list i) recordWidth), length-series (byteField list i) 3 recordWidth (λ k h. omega arith))
 
-length-step : (list : List ℕ) (i : ℕ) (e : Record) → Bytes list → Small e → length (stepText list i e) ≤ 47
+length-step : (list : List ℕ) (i : ℕ) (e : Record) → Bytes list → SmallFields e → length (stepText list i e) ≤ 47
 unfolding stepText
 length-step list i e b h = at (wellFormed a)
   where
@@ -158,10 +154,10 @@ length-step-lines list trace b t =
     omega (arith, length-series (stepLine list (readOf list .«actions_at») trace) 52 (readOf list .actions) (λ k h. length-step-line list (readOf list .«actions_at») trace k b t (omega (arith, few))), few)
 
 -- ---- the whole
-pub length-show : (list : List ℕ) (c : Counts) (trace account : List ℕ) → Counted c → Bytes list → Bytes trace → Bytes account → length (showText list c trace account) ≤ mostShowText
+pub length-show : (list : List ℕ) (c : Counts) (trace account : List ℕ) → CountsFit c → Bytes list → Bytes trace → Bytes account → length (showText list c trace account) ≤ mostShowText
 unfolding showText
 length-show list c trace account h b t d = at (eqb (c .number) 0)
   where
     at : (x : Bool) → length (pick x (headLine list ++ stepLines list trace ++ accountText c account) (refusedLine (c .number))) ≤ mostShowText
-    at true = omega (arith, length-append (headLine list ++ stepLines list trace) (accountText c account), length-append (headLine list) (stepLines list trace), length-head list b, length-step-lines list trace b t, length-account c account h d)
+    at true = omega (arith, length-append (headLine list ++ stepLines list trace) (accountText c account), length-append (headLine list) (stepLines list trace), length-head list b, length-step-lines list trace b t, length-account-text c account h d)
     at false = omega (arith, length-refused (c .number) (h .number-small))

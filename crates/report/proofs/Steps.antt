@@ -8,18 +8,18 @@ use borrow.Author.Tests.{eq-eqb, ne-eqb}
 use Rattle.figure.specs.declared.Record.{Record}
 use Rattle.lists.specs.Record.{recordAt}
 use Rattle.demands.specs.declared.Counts.{Counts}
-use Rattle.report.specs.Text.{ascii, written, Wrote}
+use Rattle.report.specs.Text.{ascii, written, Printed}
 use Rattle.report.specs.Decimal.{field}
-use Rattle.report.specs.Account.{accountText, refusedLine}
-use Rattle.report.specs.Show.{kindName, fieldWhen, okWhen, wellFormed, actionText, answerText, refusalText, outcomeText, bytesText, stepText, headLine, stepLines, showText}
+use Rattle.report.specs.Events.{accountText, refusedLine}
+use Rattle.report.specs.Actions.{kindName, fieldWhen, okWhen, wellFormed, actionText, answerText, refusalText, outcomeText, bytesText, stepText, headLine, stepLines, showText}
 
 pub name-last : (k : ℕ) → ¬ (k ≡ 1) → ¬ (k ≡ 2) → ¬ (k ≡ 3) → ¬ (k ≡ 4) → ¬ (k ≡ 5) → kindName k ≡ ascii " CI"
 name-last k a b c d e = rw (ne-eqb k 1 a, ne-eqb k 2 b, ne-eqb k 3 c, ne-eqb k 4 d, ne-eqb k 5 e)
 
 -- ---- what may be left out
-pub wrote-none : {old : List ℕ} {i : ℕ} → Wrote [] old i i old
+pub printed-none : {old : List ℕ} {i : ℕ} → Printed [] old i i old
 unfolding written
-wrote-none {old} {i} = record { place = sym (add-zero i); bytes = refl }
+printed-none {old} {i} = record { place = sym (add-zero i); bytes = refl }
 
 pub field-shown : (t : Bool) (n : ℕ) → t ≡ true → fieldWhen t n ≡ field n
 unfolding fieldWhen

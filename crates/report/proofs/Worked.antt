@@ -4,12 +4,13 @@ use mathlib.Core.List.{List, [], _∷_}
 use Prim.Native.Nat.{ℕ}
 use Rattle.figure.specs.Refusals as Refusals
 use Rattle.lists.specs.Bytes as Bytes
+use Rattle.lists.specs.Codec as Codec
 use Rattle.lists.specs.Read as Read
 use Rattle.report.specs.Text.{ascii, series}
 use Rattle.report.specs.Decimal.{digitsWithin, decimal, field, labelled}
 use Rattle.report.specs.Hex.{hexByte, hexWord, traceText}
-use Rattle.report.specs.Account.{markField, kindField, eventFields, accountLine, countsLine, refusedLine, accountText}
-use Rattle.report.specs.Show.{sizesText, headLine, fieldWhen, actionText, okWhen, answerText, refusalText, outcomeText, bytesText, stepText, stepLine, stepLines, showText}
+use Rattle.report.specs.Events.{markField, kindField, eventFields, accountLine, countsLine, refusedLine, accountText}
+use Rattle.report.specs.Actions.{sizesText, headLine, fieldWhen, actionText, okWhen, answerText, refusalText, outcomeText, bytesText, stepText, stepLine, stepLines, showText}
 
 numbers : (decimal 0 ≡ ascii "0") × (decimal 2048 ≡ ascii "2048") × (decimal 4294967295 ≡ ascii "4294967295")
 unfolding decimal digitsWithin
@@ -82,7 +83,7 @@ b4-account =
     ∷ []
 
 b4 : showText b4-list (record { number = 0; accepted = 7; refused = 0; events = 3; settled = 1 }) b4-trace b4-account ≡ ascii "engines 2 addresses 1 depth 2 memory 3\n1 MR 1 0 -> 3\n2 W 2 0 4 -> ok\n3 MW 2 -> 0 4\n4 CU 1 -> 0 0 3\n5 R 1 0 -> 3\n6 CU 1 -> 2 0 4\n7 R 1 0 -> 4\naccepted 7 refused 0 events 3 settled 1\n1 0 R 1 0 3\n2 1 W 2 0 4\n3 1 R 1 0 4\n"
-unfolding accountText countsLine labelled decimal digitsWithin series accountLine markField kindField eventFields field Bytes.u32At showText headLine sizesText stepLines stepLine stepText actionText fieldWhen outcomeText refusalText answerText okWhen bytesText hexByte Read.readOf Read.readRefused Read.layoutOf Read.memoryOf Bytes.each Refusals.sizesRefused b4-list b4-trace b4-account
+unfolding accountText countsLine labelled decimal digitsWithin series accountLine markField kindField eventFields field Bytes.u32At showText headLine sizesText stepLines stepLine stepText actionText fieldWhen outcomeText refusalText answerText okWhen bytesText hexByte Read.readOf Read.readRefused Read.layoutOf Read.memoryOf Codec.thingsAt Refusals.sizesRefused b4-list b4-trace b4-account
 b4 = refl
 
 -- ---- B9, shown: badly formed actions, and an engine that is none
@@ -104,5 +105,5 @@ b9-trace =
     ∷ []
 
 b9 : showText b9-list (record { number = 0; accepted = 0; refused = 4; events = 0; settled = 0 }) b9-trace [] ≡ ascii "engines 1 addresses 1 depth 1 memory 0\n1 bytes 07 09 00 00 00 00 00 00 -> refused 11\n2 R 9 0 -> refused 12\n3 bytes 01 01 00 01 00 00 00 05 -> refused 13\n4 bytes 01 01 00 00 00 00 00 05 -> refused 14\naccepted 0 refused 4 events 0 settled 0\n"
-unfolding accountText countsLine labelled decimal digitsWithin series accountLine markField kindField eventFields field Bytes.u32At showText headLine sizesText stepLines stepLine stepText actionText fieldWhen outcomeText refusalText answerText okWhen bytesText hexByte Read.readOf Read.readRefused Read.layoutOf Read.memoryOf Bytes.each Refusals.sizesRefused b9-list b9-trace
+unfolding accountText countsLine labelled decimal digitsWithin series accountLine markField kindField eventFields field Bytes.u32At showText headLine sizesText stepLines stepLine stepText actionText fieldWhen outcomeText refusalText answerText okWhen bytesText hexByte Read.readOf Read.readRefused Read.layoutOf Read.memoryOf Codec.thingsAt Refusals.sizesRefused b9-list b9-trace
 b9 = refl

@@ -2,5 +2,5 @@
 pub mod Text
 pub mod Decimal
 pub mod Hex
-pub mod Account
-pub mod Show
+pub mod Events
+pub mod Actions

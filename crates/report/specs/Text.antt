@@ -20,7 +20,7 @@ written old i [] = old
 written old i (b ∷ bs) = written (set old i b) (suc i) bs
 
 -- the answer of every function here: the text stands in the buffer from place i on, and r is the place after it
-pub record Wrote (text old : List ℕ) (i r : ℕ) (new : List ℕ) : Type 0 where
+pub record Printed (text old : List ℕ) (i r : ℕ) (new : List ℕ) : Type 0 where
   pub place : r ≡ i + length text
   pub bytes : new ≡ written old i text
 

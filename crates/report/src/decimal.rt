@@ -1,7 +1,7 @@
 // Numbers in decimal digits.
 ghost use mathlib.Core.Path.{_≡_};
 ghost use lib.ListN.{length};
-ghost use Rattle.report.specs.Text.{written, Room, Wrote};
+ghost use Rattle.report.specs.Text.{written, Room, Printed};
 ghost use Rattle.report.specs.Decimal.{lastDigit, decimal, field, labelled};
 use crate::text::put_byte;
 use crate::text::put_text;
@@ -40,7 +40,7 @@ fn put_digits(out: &mut [u8], at: usize, n: u64, count: usize)
 
 pub(crate) fn put_decimal(out: &mut [u8], at: usize, n: u64) -> usize
     requires { ⌜ Room at (decimal n) ⌝ }
-    ensures { λ r. ⌜ Wrote (decimal n) (now (out .entry)) at r (now (out .exit)) ⌝ }
+    ensures { λ r. ⌜ Printed (decimal n) (now (out .entry)) at r (now (out .exit)) ⌝ }
 {
     if n < 10 {
         put_byte(out, at, last_digit(n));
@@ -54,7 +54,7 @@ pub(crate) fn put_decimal(out: &mut [u8], at: usize, n: u64) -> usize
 // A space and a number.
 pub(crate) fn put_field(out: &mut [u8], at: usize, n: u64) -> usize
     requires { ⌜ Room at (field n) ⌝ }
-    ensures { λ r. ⌜ Wrote (field n) (now (out .entry)) at r (now (out .exit)) ⌝ }
+    ensures { λ r. ⌜ Printed (field n) (now (out .entry)) at r (now (out .exit)) ⌝ }
 {
     put_byte(out, at, b' ');
     put_decimal(out, at + 1, n)
@@ -62,7 +62,7 @@ pub(crate) fn put_field(out: &mut [u8], at: usize, n: u64) -> usize
 
 pub(crate) fn put_labelled(out: &mut [u8], at: usize, label: &[u8], n: u64) -> usize
     requires { ⌜ Room at (labelled (now label) n) ⌝ }
-    ensures { λ r. ⌜ Wrote (labelled (now (label .entry)) n) (now (out .entry)) at r (now (out .exit)) ⌝ }
+    ensures { λ r. ⌜ Printed (labelled (now (label .entry)) n) (now (out .entry)) at r (now (out .exit)) ⌝ }
 {
     let next = put_text(out, at, label);
     put_decimal(out, next, n)

@@ -2,7 +2,7 @@
 ghost use mathlib.Core.Path.{_≡_};
 ghost use mathlib.Core.Bool.{_||_};
 ghost use lib.Dec.{eqb};
-ghost use Rattle.report.specs.Show.{showsAddress, showsData, noAnswer, wellFormed};
+ghost use Rattle.report.specs.Actions.{showsAddress, showsData, noAnswer, wellFormed};
 use figure::Record;
 use figure::is_outside;
 

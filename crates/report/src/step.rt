@@ -2,8 +2,8 @@
 ghost use Prim.Native.Nat.{_+_, _≤_};
 ghost use lib.ListN.{length};
 ghost use Rattle.lists.specs.Record.{recordWidth};
-ghost use Rattle.report.specs.Text.{series, Room, Wrote};
-ghost use Rattle.report.specs.Show.{kindName, fieldWhen, actionText, okWhen, answerText, refusalText, outcomeText, byteField, bytesText, stepText};
+ghost use Rattle.report.specs.Text.{series, Room, Printed};
+ghost use Rattle.report.specs.Actions.{kindName, fieldWhen, actionText, okWhen, answerText, refusalText, outcomeText, byteField, bytesText, stepText};
 use crate::decimal::put_field;
 use crate::decimal::put_labelled;
 use crate::form::has_no_answer;
@@ -18,7 +18,7 @@ use lists::bytes::record_at;
 
 fn put_name(out: &mut [u8], at: usize, kind: u8) -> usize
     requires { ⌜ Room at (kindName kind) ⌝ }
-    ensures { λ r. ⌜ Wrote (kindName kind) (now (out .entry)) at r (now (out .exit)) ⌝ }
+    ensures { λ r. ⌜ Printed (kindName kind) (now (out .entry)) at r (now (out .exit)) ⌝ }
 {
     match kind {
         1 => put_text(out, at, b" R"),
@@ -32,7 +32,7 @@ fn put_name(out: &mut [u8], at: usize, kind: u8) -> usize
 
 fn put_field_when(out: &mut [u8], at: usize, shown: bool, n: u64) -> usize
     requires { ⌜ Room at (fieldWhen shown n) ⌝ }
-    ensures { λ r. ⌜ Wrote (fieldWhen shown n) (now (out .entry)) at r (now (out .exit)) ⌝ }
+    ensures { λ r. ⌜ Printed (fieldWhen shown n) (now (out .entry)) at r (now (out .exit)) ⌝ }
 {
     if shown {
         return put_field(out, at, n);
@@ -42,7 +42,7 @@ fn put_field_when(out: &mut [u8], at: usize, shown: bool, n: u64) -> usize
 
 fn put_ok_when(out: &mut [u8], at: usize, shown: bool) -> usize
     requires { ⌜ Room at (okWhen shown) ⌝ }
-    ensures { λ r. ⌜ Wrote (okWhen shown) (now (out .entry)) at r (now (out .exit)) ⌝ }
+    ensures { λ r. ⌜ Printed (okWhen shown) (now (out .entry)) at r (now (out .exit)) ⌝ }
 {
     if shown {
         return put_text(out, at, b" ok");
@@ -52,7 +52,7 @@ fn put_ok_when(out: &mut [u8], at: usize, shown: bool) -> usize
 
 fn put_action(out: &mut [u8], at: usize, a: Record) -> usize
     requires { ⌜ Room at (actionText a) ⌝ }
-    ensures { λ r. ⌜ Wrote (actionText a) (now (out .entry)) at r (now (out .exit)) ⌝ }
+    ensures { λ r. ⌜ Printed (actionText a) (now (out .entry)) at r (now (out .exit)) ⌝ }
 {
     let engine_at = put_name(out, at, a.kind);
     let address_at = put_field(out, engine_at, a.engine.0 as u64);
@@ -62,7 +62,7 @@ fn put_action(out: &mut [u8], at: usize, a: Record) -> usize
 
 fn put_answer(out: &mut [u8], at: usize, kind: u8, e: Record) -> usize
     requires { ⌜ Room at (answerText kind e) ⌝ }
-    ensures { λ r. ⌜ Wrote (answerText kind e) (now (out .entry)) at r (now (out .exit)) ⌝ }
+    ensures { λ r. ⌜ Printed (answerText kind e) (now (out .entry)) at r (now (out .exit)) ⌝ }
 {
     let origin_at = put_text(out, at, b" ->");
     let address_at = put_field_when(out, origin_at, kind == 5, e.origin.0 as u64);
@@ -73,14 +73,14 @@ fn put_answer(out: &mut [u8], at: usize, kind: u8, e: Record) -> usize
 
 fn put_refusal(out: &mut [u8], at: usize, e: Record) -> usize
     requires { ⌜ Room at (refusalText e) ⌝ }
-    ensures { λ r. ⌜ Wrote (refusalText e) (now (out .entry)) at r (now (out .exit)) ⌝ }
+    ensures { λ r. ⌜ Printed (refusalText e) (now (out .entry)) at r (now (out .exit)) ⌝ }
 {
     put_labelled(out, at, b" -> refused ", e.engine.0 as u64)
 }
 
 fn put_outcome(out: &mut [u8], at: usize, kind: u8, e: Record) -> usize
     requires { ⌜ Room at (outcomeText kind e) ⌝ }
-    ensures { λ r. ⌜ Wrote (outcomeText kind e) (now (out .entry)) at r (now (out .exit)) ⌝ }
+    ensures { λ r. ⌜ Printed (outcomeText kind e) (now (out .entry)) at r (now (out .exit)) ⌝ }
 {
     if e.kind == 0 {
         return put_refusal(out, at, e);
@@ -91,7 +91,7 @@ fn put_outcome(out: &mut [u8], at: usize, kind: u8, e: Record) -> usize
 // A space and two digits for each byte of a record.
 fn put_record_bytes(out: &mut [u8], at: usize, list: &[u8], i: usize) -> usize
     requires { ⌜ Room at (series (byteField (now list) i) recordWidth) × (i + recordWidth ≤ length (now list)) ⌝ }
-    ensures { λ r. ⌜ Wrote (series (byteField (now (list .entry)) i) recordWidth) (now (out .entry)) at r (now (out .exit)) ⌝ }
+    ensures { λ r. ⌜ Printed (series (byteField (now (list .entry)) i) recordWidth) (now (out .entry)) at r (now (out .exit)) ⌝ }
 {
     let mut next = at;
     let mut k = 0;
@@ -105,7 +105,7 @@ fn put_record_bytes(out: &mut [u8], at: usize, list: &[u8], i: usize) -> usize
 
 fn put_bytes(out: &mut [u8], at: usize, list: &[u8], i: usize) -> usize
     requires { ⌜ Room at (bytesText (now list) i) × (i + recordWidth ≤ length (now list)) ⌝ }
-    ensures { λ r. ⌜ Wrote (bytesText (now (list .entry)) i) (now (out .entry)) at r (now (out .exit)) ⌝ }
+    ensures { λ r. ⌜ Printed (bytesText (now (list .entry)) i) (now (out .entry)) at r (now (out .exit)) ⌝ }
 {
     let next = put_text(out, at, b" bytes");
     put_record_bytes(out, next, list, i)
@@ -114,7 +114,7 @@ fn put_bytes(out: &mut [u8], at: usize, list: &[u8], i: usize) -> usize
 // The action whose record stands at a place of the list, and what came of it.
 pub(crate) fn put_step(out: &mut [u8], at: usize, list: &[u8], i: usize, e: Record) -> usize
     requires { ⌜ Room at (stepText (now list) i e) × (i + recordWidth ≤ length (now list)) ⌝ }
-    ensures { λ r. ⌜ Wrote (stepText (now (list .entry)) i e) (now (out .entry)) at r (now (out .exit)) ⌝ }
+    ensures { λ r. ⌜ Printed (stepText (now (list .entry)) i e) (now (out .entry)) at r (now (out .exit)) ⌝ }
 {
     let a = record_at(list, i);
     if is_well_formed(a) {

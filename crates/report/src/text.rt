@@ -2,7 +2,7 @@
 ghost use mathlib.Core.Path.{_≡_};
 ghost use mathlib.Core.List.{[], _∷_};
 ghost use lib.ListN.{set};
-ghost use Rattle.report.specs.Text.{Room, Wrote};
+ghost use Rattle.report.specs.Text.{Room, Printed};
 
 pub(crate) fn put_byte(out: &mut [u8], at: usize, b: u8)
     ensures { λ _. ⌜ now (out .exit) ≡ set (now (out .entry)) at b ⌝ }
@@ -14,7 +14,7 @@ pub(crate) fn put_byte(out: &mut [u8], at: usize, b: u8)
 
 pub(crate) fn put_text(out: &mut [u8], at: usize, text: &[u8]) -> usize
     requires { ⌜ Room at (now text) ⌝ }
-    ensures { λ r. ⌜ Wrote (now (text .entry)) (now (out .entry)) at r (now (out .exit)) ⌝ }
+    ensures { λ r. ⌜ Printed (now (text .entry)) (now (out .entry)) at r (now (out .exit)) ⌝ }
 {
     let mut i = 0;
     while i < text.len() {
@@ -27,7 +27,7 @@ pub(crate) fn put_text(out: &mut [u8], at: usize, text: &[u8]) -> usize
 // A space and a letter.
 pub(crate) fn put_letter(out: &mut [u8], at: usize, letter: u8) -> usize
     requires { ⌜ Room at (32 ∷ letter ∷ []) ⌝ }
-    ensures { λ r. ⌜ Wrote (32 ∷ letter ∷ []) (now (out .entry)) at r (now (out .exit)) ⌝ }
+    ensures { λ r. ⌜ Printed (32 ∷ letter ∷ []) (now (out .entry)) at r (now (out .exit)) ⌝ }
 {
     put_byte(out, at, b' ');
     put_byte(out, at + 1, letter);
@@ -36,7 +36,7 @@ pub(crate) fn put_letter(out: &mut [u8], at: usize, letter: u8) -> usize
 
 pub(crate) fn put_newline(out: &mut [u8], at: usize) -> usize
     requires { ⌜ Room at (10 ∷ []) ⌝ }
-    ensures { λ r. ⌜ Wrote (10 ∷ []) (now (out .entry)) at r (now (out .exit)) ⌝ }
+    ensures { λ r. ⌜ Printed (10 ∷ []) (now (out .entry)) at r (now (out .exit)) ⌝ }
 {
     put_byte(out, at, b'\n');
     at + 1

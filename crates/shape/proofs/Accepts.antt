@@ -123,7 +123,7 @@ take-law true he hm = rw (he, hm)
 take-law false he hm = rw (he, hm)
 
 -- accepted exactly, of a well-formed record
-pub turn-accepted : (s : Store) → Sound s → Shaped s → {x : Record} {t : Step} → Asks (s .sizes) x t → eqb (firstOf (turnRefused s x)) 0 ≡ accepted (s .sizes) (view s) t
+pub turn-accepted : (s : Store) → Sound s → Shaped s → {x : Record} {t : Step} → Asks (s .sizes) x t → eqb (firstOf (turnRefused s t)) 0 ≡ accepted (s .sizes) (view s) t
 unfolding turnRefused
 turn-accepted s h g (asks-R {k = i} {a = a} k b) =
     let q = outAt s (suc i) in

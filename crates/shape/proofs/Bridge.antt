@@ -9,6 +9,7 @@ use lib.Dec.{eqb}
 use lib.ListN.{length, getD, List·getD-append}
 use borrow.Author.Tests.{eqb-true, eqb-false, eq-eqb, ne-eqb, ltb-true}
 use Rattle.figure.specs.Account.{refused, event}
+use Rattle.figure.specs.Event.{eventView}
 use Rattle.figure.specs.Figure.{Step, R, fresh, accepted, next, step}
 use Rattle.figure.specs.Refusals.{pick, firstOf, mostEngines, mostAddresses}
 use Rattle.figure.specs.declared.Record.{Record}
@@ -26,7 +27,7 @@ use Rattle.shape.specs.Parts.{outOf, inOf, cachedValue, noOut, noIn, noC
 use Rattle.shape.specs.Sound.{soundOf}
 use Rattle.shape.specs.Step.{formRefused, actionOf, stepped}
 use Rattle.shape.specs.Trace.{traced}
-use Rattle.shape.specs.View.{outView, inView, cacheView, view, stepView, eventView}
+use Rattle.shape.specs.View.{outView, inView, cacheView, view, stepView}
 use Rattle.shape.specs.declared.Cache.{Cache}
 use Rattle.shape.specs.declared.InQueue.{InQueue}
 use Rattle.shape.specs.declared.OutQueue.{OutQueue}

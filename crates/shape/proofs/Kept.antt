@@ -13,10 +13,10 @@ use Rattle.figure.specs.Record.{noRecord}
 use Rattle.figure.specs.Refusals.{firstOf, outside, sizesRefused}
 use Rattle.figure.specs.declared.Record.{Record}
 use Rattle.figure.specs.declared.Sizes.{Sizes}
-use Rattle.figure.proofs.First.{NoneApplies, Numbered, none-first, first-none}
+use Rattle.figure.proofs.First.{NoneApplies, Numbered, none-first, first-none, none-split, sizes-numbered}
 use Rattle.figure.proofs.Laws.{and-left, and-right}
 use Rattle.shape.proofs.Places.{and-both, or-left, or-right, all-end, all-tail, all-getD, all-replicate, all-change, all-map, take-change, take-firsts, length-tail-le, length-take-most, out-with, in-with}
-use Rattle.shape.proofs.Taken.{Goes, goes-R, goes-W, goes-MW, goes-MR, goes-CU, goes-CI, Answers, takes, keeps, answers, none-split}
+use Rattle.shape.proofs.Taken.{Goes, goes-R, goes-W, goes-MW, goes-MR, goes-CU, goes-CI, Answers, takes, keeps, answers}
 use Rattle.shape.specs.Fresh.{freshOf, zeros, freshRefused, emptyOut, emptyIn}
 use Rattle.shape.specs.Parts.{all, any, change, firsts, full, outOf, withOut, outJoined, outLeft, inOf, withIn, inJoined, inLeft, noOut, noIn, noOutEntry, noInEntry}
 use Rattle.shape.specs.Sound.{soundSizes, soundOutEntry, soundInEntry, soundOut, soundIn, soundOf}
@@ -37,10 +37,6 @@ pub record Ranged (z : Sizes) : Type 0 where
   pub addresses : z .addresses ≤ 64
   pub some-depth : 0 < z .depth
   pub depth : z .depth ≤ 32
-
-pub sizes-numbered : (z : Sizes) → Numbered (sizesRefused z)
-unfolding sizesRefused
-sizes-numbered z = omega arith
 
 from : (hi x : ℕ) → outside 1 hi x ≡ false → (0 < x) × (x ≤ hi)
 from hi x h = (ltb-false x 1 (or-left (ltb x 1) _ h), ltb-false hi x (or-right (ltb x 1) _ h))

@@ -9,3 +9,4 @@ pub mod Numbers
 pub mod Bridge
 pub mod Unused
 pub mod Used
+pub mod Trails

@@ -12,6 +12,7 @@ use lib.Seq.{getD-set-same, getD-set-other}
 use borrow.Author.Tests.{leb-true, ltb-true}
 use Rattle.figure.specs.Figure.{upd, up, Engine, Step, W, MW, MR, CU, CI, engine?, next, publish, update, join-in}
 use Rattle.figure.specs.Account.{read, event, held, head-out, head-in}
+use Rattle.figure.specs.Event.{eventView}
 use Rattle.figure.specs.Refusals.{pick, mostEngines, mostAddresses}
 use Rattle.figure.specs.declared.Record.{Record}
 use Rattle.figure.specs.declared.Sizes.{Sizes}
@@ -24,7 +25,7 @@ use Rattle.shape.proofs.Shaped.{Shaped, CacheShaped}
 use Rattle.shape.proofs.Taken.{Goes, goes-R, goes-W, goes-MW, goes-MR, goes-CU, goes-CI}
 use Rattle.shape.specs.Parts.{change, outOf, outJoined, outLeft, inOf, inJoined, inLeft, cached, dropped, cachedValue, noOutEntry, noInEntry, noOut, noIn, noCache}
 use Rattle.shape.specs.Step.{outAt, inAt, cacheAt, memoryAt, outEntry, inEntry, oldestOut, oldestIn, effect, eventOf}
-use Rattle.shape.specs.View.{outView, inView, cacheView, engineView, view, eventView}
+use Rattle.shape.specs.View.{outView, inView, cacheView, engineView, view}
 use Rattle.shape.specs.declared.Cache.{Cache}
 use Rattle.shape.specs.declared.InEntry.{InEntry}
 use Rattle.shape.specs.declared.InQueue.{InQueue}

@@ -15,7 +15,7 @@ use Rattle.shape.proofs.Shaped.{Shaped, fresh-shaped}
 use Rattle.shape.proofs.Taken.{form-numbered, step-numbered}
 use Rattle.shape.specs.Fresh.{freshOf, zeros, freshRefused, made, madeAs}
 use Rattle.shape.specs.Sound.{soundOf}
-use Rattle.shape.specs.Step.{formRefused, turnRefused, stepRefused, answered, stepped}
+use Rattle.shape.specs.Step.{formRefused, turnRefused, stepRefused, answered, stepped, actionOf}
 use Rattle.shape.specs.declared.Store.{Store}
 
 -- ---- the step
@@ -45,15 +45,15 @@ module _ (s : Store) (x : Record) where
   unfolding stepRefused
   unsound-number h = step-number ∙ rw (h)
 
-  rest-number : soundOf s ≡ true → stepped s x .number ≡ firstOf (formRefused (s .sizes) x ++ turnRefused s x)
+  rest-number : soundOf s ≡ true → stepped s x .number ≡ firstOf (formRefused (s .sizes) x ++ turnRefused s (actionOf x))
   unfolding stepRefused
   rest-number h = step-number ∙ rw (h)
 
   pub form-number : soundOf s ≡ true → ¬ (firstOf (formRefused (s .sizes) x) ≡ 0) → stepped s x .number ≡ firstOf (formRefused (s .sizes) x)
-  form-number h n = rest-number h ∙ first-front (formRefused (s .sizes) x) (turnRefused s x) n
+  form-number h n = rest-number h ∙ first-front (formRefused (s .sizes) x) (turnRefused s (actionOf x)) n
 
-  pub turn-number : soundOf s ≡ true → firstOf (formRefused (s .sizes) x) ≡ 0 → stepped s x .number ≡ firstOf (turnRefused s x)
-  turn-number h e = rest-number h ∙ first-append (formRefused (s .sizes) x) (turnRefused s x) e (form-numbered (s .sizes) x)
+  pub turn-number : soundOf s ≡ true → firstOf (formRefused (s .sizes) x) ≡ 0 → stepped s x .number ≡ firstOf (turnRefused s (actionOf x))
+  turn-number h e = rest-number h ∙ first-append (formRefused (s .sizes) x) (turnRefused s (actionOf x)) e (form-numbered (s .sizes) x)
 
 -- ---- the fresh store
 

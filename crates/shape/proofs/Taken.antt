@@ -12,12 +12,12 @@ use Rattle.figure.specs.Record.{noRecord}
 use Rattle.figure.specs.Refusals.{Refusal, firstOf, outside}
 use Rattle.figure.specs.declared.Record.{Record}
 use Rattle.figure.specs.declared.Sizes.{Sizes}
-use Rattle.figure.proofs.First.{NoneApplies, Numbered, none-first}
+use Rattle.figure.proofs.First.{NoneApplies, Numbered, none-first, none-split}
 use Rattle.figure.proofs.Laws.{and-left, and-right}
 use Rattle.shape.proofs.Places.{or-right}
-use Rattle.shape.specs.Parts.{any, full, ownWaits, inCache}
+use Rattle.shape.specs.Parts.{ownWaits, inCache}
 use Rattle.shape.specs.Sound.{soundOf}
-use Rattle.shape.specs.Step.{outAt, inAt, cacheAt, formRefused, turnRefused, stepRefused, actionOf, effect, eventOf, answered, stepped}
+use Rattle.shape.specs.Step.{outAt, inAt, cacheAt, someFull, formRefused, turnRefused, stepRefused, actionOf, effect, eventOf, answered, stepped}
 use Rattle.shape.specs.declared.InQueue.{InQueue}
 use Rattle.shape.specs.declared.Stepped.{Stepped}
 use Rattle.shape.specs.declared.Store.{Store}
@@ -87,7 +87,7 @@ pub data Goes (s : Store) : Record → Step → Type 0 where
   goes-R : {k a : ℕ} → k < s .sizes .engines → a < s .sizes .addresses → outAt s (suc k) .len ≡ 0 → ownWaits (record { 0 = suc k }) (inAt s (suc k)) ≡ false
       → inCache (cacheAt s (suc k)) (record { 0 = a }) ≡ true → Goes s (action 1 (suc k) a 0) (R (suc k) a)
   goes-W : {k a d : ℕ} → k < s .sizes .engines → a < s .sizes .addresses → outAt s (suc k) .len < s .sizes .depth → Goes s (action 2 (suc k) a d) (W (suc k) a d)
-  goes-MW : {k : ℕ} → k < s .sizes .engines → 0 < outAt s (suc k) .len → any (λ (q : InQueue). full (s .sizes .depth) (q .len)) (take (s .sizes .engines) (s .ins)) ≡ false
+  goes-MW : {k : ℕ} → k < s .sizes .engines → 0 < outAt s (suc k) .len → someFull s ≡ false
       → Goes s (action 3 (suc k) 0 0) (MW (suc k))
   goes-MR : {k a : ℕ} → k < s .sizes .engines → a < s .sizes .addresses → inAt s (suc k) .len < s .sizes .depth → Goes s (action 4 (suc k) a 0) (MR (suc k) a)
   goes-CU : {k : ℕ} → k < s .sizes .engines → 0 < inAt s (suc k) .len → Goes s (action 5 (suc k) 0 0) (CU (suc k))
@@ -96,13 +96,13 @@ pub data Goes (s : Store) : Record → Step → Type 0 where
 some : (n : ℕ) → eqb n 0 ≡ false → 0 < n
 some n h = let e = eqb-false n 0 h in omega arith
 
-goes : (s : Store) {x : Record} {t : Step} → Asks (s .sizes) x t → NoneApplies (turnRefused s x) → Goes s x t
+pub goes : (s : Store) {x : Record} {t : Step} → Asks (s .sizes) x t → NoneApplies (turnRefused s t) → Goes s x t
 unfolding turnRefused
 goes s (asks-R k a) h = goes-R k a (eqb-true _ 0 (not-false _ (h .0))) (h .1 .0) (not-false _ (h .1 .1 .0))
-goes s (asks-W k a) h = goes-W k a (leb-false _ _ (h .1 .1 .1 .0))
-goes s (asks-MW k) h = goes-MW k (some _ (h .1 .1 .1 .1 .0)) (h .1 .1 .1 .1 .1 .0)
-goes s (asks-MR k a) h = goes-MR k a (leb-false _ _ (h .1 .1 .1 .1 .1 .1 .0))
-goes s (asks-CU k) h = goes-CU k (some _ (h .1 .1 .1 .1 .1 .1 .1 .0))
+goes s (asks-W k a) h = goes-W k a (leb-false _ _ (h .0))
+goes s (asks-MW k) h = goes-MW k (some _ (h .0)) (h .1 .0)
+goes s (asks-MR k a) h = goes-MR k a (leb-false _ _ (h .0))
+goes s (asks-CU k) h = goes-CU k (some _ (h .0))
 goes s (asks-CI k a) h = goes-CI k a
 
 -- ---- the answer: a step that is taken, or a refusal
@@ -111,19 +111,24 @@ pub data Answers (s : Store) (x : Record) : Stepped → Type 0 where
   takes : soundOf s ≡ true → Goes s x (actionOf x) → Answers s x (record { number = 0; store = effect s (actionOf x); event = eventOf s x (actionOf x) })
   keeps : (n : ℕ) → Answers s x (record { number = suc n; store = s; event = noRecord })
 
-pub step-numbered : (s : Store) (x : Record) → Numbered (stepRefused s x)
-unfolding formRefused turnRefused stepRefused
-step-numbered s x = omega arith
+pub turn-numbered : (s : Store) (t : Step) → Numbered (turnRefused s t)
+unfolding turnRefused
+turn-numbered s (R i a) = omega arith
+turn-numbered s (W i a d) = omega arith
+turn-numbered s (MW i) = omega arith
+turn-numbered s (MR i a) = omega arith
+turn-numbered s (CU i) = omega arith
+turn-numbered s (CI i a) = tt
 
-pub none-split : (rs qs : List Refusal) → NoneApplies (rs ++ qs) → NoneApplies rs × NoneApplies qs
-none-split [] qs h = (tt, h)
-none-split (r ∷ rs) qs h = let k = none-split rs qs (h .1) in ((h .0, k .0), k .1)
+pub step-numbered : (s : Store) (x : Record) → Numbered (stepRefused s x)
+unfolding formRefused stepRefused
+step-numbered s x = (omega arith, (omega arith, (omega arith, (omega arith, (omega arith, turn-numbered s (actionOf x))))))
 
 answers-at : (s : Store) (x : Record) (n : ℕ) → firstOf (stepRefused s x) ≡ n → Answers s x (answered n s x)
 unfolding stepRefused
 answers-at s x zero e =
     let h : NoneApplies (stepRefused s x) = none-first (stepRefused s x) (step-numbered s x) e in
-    let k = none-split (formRefused (s .sizes) x) (turnRefused s x) (h .1) in
+    let k = none-split (formRefused (s .sizes) x) (turnRefused s (actionOf x)) (h .1) in
     takes (not-false _ (h .0)) (goes s (asks (s .sizes) x (k .0)) (k .1))
 answers-at s x (suc n) e = keeps n
 

@@ -82,7 +82,7 @@ sound-same s r g u e = and-if (soundSizes (s .sizes)) λ f.
 -- ---- the refusals of a well-formed record
 
 turn-same : (s r : Store) → Ranged (s .sizes) → Shaped s → Shaped r → SameParts (s .sizes) s r → {x : Record} {t : Step} → Asks (s .sizes) x t
-    → firstOf (turnRefused s x) ≡ firstOf (turnRefused (sized (s .sizes) r) x)
+    → firstOf (turnRefused s t) ≡ firstOf (turnRefused (sized (s .sizes) r) t)
 unfolding turnRefused
 turn-same s r b g u e (asks-R {k = i} {a = a} k c) = rw (e .outs i k .len, e .ins i k .held, e .caches i k .present a c)
 turn-same s r b g u e (asks-W {k = i} k c) = rw (e .outs i k .len)

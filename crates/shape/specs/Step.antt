@@ -58,30 +58,22 @@ formRefused z x =
     ∷ 14 when not (fieldsRight x)
     ∷ []
 
--- 21 to 28: of a well-formed record
-unfoldable pub turnRefused : Store → Record → List Refusal
-turnRefused s x =
-    let i = x .engine .0 in
-    let R? = eqb (x .kind) 1 in
-    let W? = eqb (x .kind) 2 in
-    let MW? = eqb (x .kind) 3 in
-    let MR? = eqb (x .kind) 4 in
-    let CU? = eqb (x .kind) 5 in
-    21 when (R? && not (eqb (outAt s i .len) 0))
-    ∷ 22 when (R? && ownWaits (x .engine) (inAt s i))
-    ∷ 23 when (R? && not (inCache (cacheAt s i) (x .address)))
-    ∷ 24 when (W? && full (s .sizes .depth) (outAt s i .len))
-    ∷ 25 when (MW? && eqb (outAt s i .len) 0)
-    ∷ 26 when (MW? && any (λ (q : InQueue). full (s .sizes .depth) (q .len)) (take (s .sizes .engines) (s .ins)))
-    ∷ 27 when (MR? && full (s .sizes .depth) (inAt s i .len))
-    ∷ 28 when (CU? && eqb (inAt s i .len) 0)
+-- some in queue of the engines 1 to the engine count is full
+abbrev pub someFull : Store → Bool
+someFull s = any (λ (q : InQueue). full (s .sizes .depth) (q .len)) (take (s .sizes .engines) (s .ins))
+
+-- 21 to 28: of the step that a well-formed record asks for
+unfoldable pub turnRefused : Store → Step → List Refusal
+turnRefused s (R i a) =
+    21 when not (eqb (outAt s i .len) 0)
+    ∷ 22 when ownWaits (record { 0 = i }) (inAt s i)
+    ∷ 23 when not (inCache (cacheAt s i) (record { 0 = a }))
     ∷ []
-
--- the whole table, in its order
-unfoldable pub stepRefused : Store → Record → List Refusal
-stepRefused s x = 17 when not (soundOf s) ∷ formRefused (s .sizes) x ++ turnRefused s x
-
--- ---- the effect
+turnRefused s (W i a d) = 24 when full (s .sizes .depth) (outAt s i .len) ∷ []
+turnRefused s (MW i) = 25 when eqb (outAt s i .len) 0 ∷ 26 when someFull s ∷ []
+turnRefused s (MR i a) = 27 when full (s .sizes .depth) (inAt s i .len) ∷ []
+turnRefused s (CU i) = 28 when eqb (inAt s i .len) 0 ∷ []
+turnRefused s (CI i a) = []
 
 -- the step that a well-formed record asks for
 abbrev pub actionOf : Record → Step
@@ -94,6 +86,12 @@ actionOf x =
     (pick (eqb (x .kind) 4) (MR i a)
     (pick (eqb (x .kind) 5) (CU i)
     (CI i a)))))
+
+-- the whole table, in its order
+unfoldable pub stepRefused : Store → Record → List Refusal
+stepRefused s x = 17 when not (soundOf s) ∷ formRefused (s .sizes) x ++ turnRefused s (actionOf x)
+
+-- ---- the effect
 
 abbrev pub withOuts : Store → List OutQueue → Store
 withOuts s l = record { sizes = s .sizes; memory = s .memory; caches = s .caches; outs = l; ins = s .ins }

@@ -5,12 +5,12 @@ use Prim.Native.Nat.{ℕ, zero, suc, min, _*_, _/_}
 use lib.ListN.{length}
 use Rattle.figure.specs.declared.Record.{Record}
 use Rattle.figure.specs.declared.Sizes.{Sizes}
+use Rattle.figure.specs.Refusals.{firstOf, unless}
 use Rattle.lists.specs.Bytes.{laid, rows}
 use Rattle.lists.specs.Record.{recordWidth, recordAt, recordBytes}
-use Rattle.shape.specs.Fresh.{made}
+use Rattle.shape.specs.Fresh.{freshOf, freshRefused}
 use Rattle.shape.specs.Step.{stepped}
 use Rattle.shape.specs.Trace.{traced}
-use Rattle.shape.specs.declared.OutQueue.{OutQueue}
 use Rattle.shape.specs.declared.Store.{Store}
 
 -- action k of a list's bytes
@@ -36,12 +36,7 @@ bytesOf rs = rows recordBytes rs
 abbrev pub turnsOf : List ℕ → List ℕ → ℕ
 turnsOf actions trace = min (length actions / recordWidth) (length trace / recordWidth)
 
--- what many steps leave: the store, and the trace over the front of the lent buffer; "Bytes past what is written stay."
-pub record Turned (s : Store) (actions trace : List ℕ) (r : Store) (trace′ : List ℕ) : Type 0 where
-  pub store : r ≡ storeAfter s (actionAt actions) (turnsOf actions trace)
-  pub trace-is : trace′ ≡ laid (bytesOf (traceAfter s (actionAt actions) (turnsOf actions trace))) trace
-
--- what many steps from a fresh store leave of it: its out queues, and the trace
-pub record FreshTurned (z : Sizes) (table actions trace : List ℕ) (r : List OutQueue) (trace′ : List ℕ) : Type 0 where
-  pub outs-are : r ≡ storeAfter (made z table .store) (actionAt actions) (turnsOf actions trace) .outs
-  pub trace-is : trace′ ≡ laid (bytesOf (traceAfter (made z table .store) (actionAt actions) (turnsOf actions trace))) trace
+-- what many steps from a fresh store answer, and leave in the lent buffer: the trace over its front, nothing where there is no such store; "Bytes past what is written stay."
+pub record FreshTurned (z : Sizes) (table actions trace : List ℕ) (r : ℕ) (trace′ : List ℕ) : Type 0 where
+  pub number : r ≡ firstOf (freshRefused z table)
+  pub trace-is : trace′ ≡ laid (unless (firstOf (freshRefused z table)) (bytesOf (traceAfter (freshOf z table) (actionAt actions) (turnsOf actions trace))) []) trace

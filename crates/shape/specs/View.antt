@@ -1,11 +1,8 @@
--- A store as a state of Figure 2, a record as one of its steps, a trace record as what happened. Assumes nothing.
-use mathlib.Core.Bool.{Bool, true, false}
-use mathlib.Core.List.{List, [], _∷_, map}
+-- A store as a state of Figure 2, a record as one of its steps. Assumes nothing.
+use mathlib.Core.List.{map}
 use mathlib.Core.Option.{Option, none, some}
 use Prim.Native.Nat.{ℕ}
 use lib.Dec.{eqb}
-use Rattle.figure.specs.Account.{Event, refused, read, wrote, updated, refreshed, dropped}
-use Rattle.figure.specs.Account as account
 use Rattle.figure.specs.Figure.{Out, wr, In, up, Engine, State, Step, R}
 use Rattle.figure.specs.Refusals.{pick, firstOf}
 use Rattle.figure.specs.declared.Record.{Record}
@@ -40,17 +37,3 @@ view s = record { memory = memoryAt s; engine = engineView s }
 -- a badly formed record is a step of engine 0, which is no engine
 abbrev pub stepView : Sizes → Record → Step
 stepView z x = pick (eqb (firstOf (formRefused z x)) 0) (actionOf x) (R 0 0)
-
--- what happened, read off a trace record
-abbrev pub eventView : Record → Event
-eventView x =
-    let i = x .engine .0 in
-    let a = x .address .0 in
-    let d = x .«data» in
-    pick (eqb (x .kind) 1) (read i a d)
-    (pick (eqb (x .kind) 2) (wrote i a d)
-    (pick (eqb (x .kind) 3) (account.published i a d)
-    (pick (eqb (x .kind) 4) (refreshed i a d)
-    (pick (eqb (x .kind) 5) (updated i (x .origin .0) a d)
-    (pick (eqb (x .kind) 6) (dropped i a)
-    refused)))))

@@ -48,17 +48,6 @@ fn cache_at(b: &[u8], at: usize) -> Cache
     }
 }
 
-fn caches_of(b: &[u8]) -> [Cache; 8] {
-    let first = cache_at(b, layout::CACHES_AT);
-    let mut caches = [first; 8];
-    let mut k = 1;
-    while k < 8 {
-        caches[k] = cache_at(b, layout::CACHES_AT + layout::CACHE * k);
-        k += 1;
-    }
-    caches
-}
-
 fn out_entry_at(b: &[u8], at: usize) -> OutEntry
     requires { ⌜ at ≤ 8192 ⌝ }
 {
@@ -82,17 +71,6 @@ fn out_queue_at(b: &[u8], at: usize) -> OutQueue
         len: byte_at(b, at),
         entries,
     }
-}
-
-fn outs_of(b: &[u8]) -> [OutQueue; 8] {
-    let first = out_queue_at(b, layout::OUTS_AT);
-    let mut outs = [first; 8];
-    let mut k = 1;
-    while k < 8 {
-        outs[k] = out_queue_at(b, layout::OUTS_AT + layout::OUT * k);
-        k += 1;
-    }
-    outs
 }
 
 fn in_entry_at(b: &[u8], at: usize) -> InEntry
@@ -121,28 +99,30 @@ fn in_queue_at(b: &[u8], at: usize) -> InQueue
     }
 }
 
-fn ins_of(b: &[u8]) -> [InQueue; 8] {
-    let first = in_queue_at(b, layout::INS_AT);
-    let mut ins = [first; 8];
-    let mut k = 1;
-    while k < 8 {
-        ins[k] = in_queue_at(b, layout::INS_AT + layout::IN * k);
-        k += 1;
-    }
-    ins
-}
-
 pub(crate) fn state_of(b: &[u8]) -> Store {
     let sizes = Sizes {
         engines: byte_at(b, 0),
         addresses: byte_at(b, 1),
         depth: byte_at(b, 2),
     };
+    let cache = cache_at(b, layout::CACHES_AT);
+    let mut caches = [cache; 8];
+    let out_queue = out_queue_at(b, layout::OUTS_AT);
+    let mut outs = [out_queue; 8];
+    let in_queue = in_queue_at(b, layout::INS_AT);
+    let mut ins = [in_queue; 8];
+    let mut k = 1;
+    while k < 8 {
+        caches[k] = cache_at(b, layout::CACHES_AT + layout::CACHE * k);
+        outs[k] = out_queue_at(b, layout::OUTS_AT + layout::OUT * k);
+        ins[k] = in_queue_at(b, layout::INS_AT + layout::IN * k);
+        k += 1;
+    }
     Store {
         sizes,
         memory: words_at(b, layout::MEMORY_AT),
-        caches: caches_of(b),
-        outs: outs_of(b),
-        ins: ins_of(b),
+        caches,
+        outs,
+        ins,
     }
 }

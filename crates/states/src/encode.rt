@@ -32,17 +32,13 @@ fn put_present(out: &mut [u8], at: usize, present: [bool; 64])
     }
 }
 
-fn put_caches(out: &mut [u8], caches: [Cache; 8]) {
-    let mut k = 0;
-    while k < 8 {
-        let c = caches[k];
-        let at = layout::CACHES_AT + layout::CACHE * k;
-        let present = c.present;
-        put_present(out, at, present);
-        let words = c.data;
-        put_words(out, at + 64, words);
-        k += 1;
-    }
+fn put_cache(out: &mut [u8], at: usize, c: Cache)
+    requires { ⌜ at ≤ 8000 ⌝ }
+{
+    let present = c.present;
+    put_present(out, at, present);
+    let words = c.data;
+    put_words(out, at + 64, words);
 }
 
 fn put_out_queue(out: &mut [u8], at: usize, q: OutQueue)
@@ -54,15 +50,6 @@ fn put_out_queue(out: &mut [u8], at: usize, q: OutQueue)
         let x = q.entries[k];
         put_byte(out, at + 1 + 5 * k, x.address.0);
         lists::bytes::put_u32(out, at + 2 + 5 * k, x.data);
-        k += 1;
-    }
-}
-
-fn put_outs(out: &mut [u8], outs: [OutQueue; 8]) {
-    let mut k = 0;
-    while k < 8 {
-        let q = outs[k];
-        put_out_queue(out, layout::OUTS_AT + layout::OUT * k, q);
         k += 1;
     }
 }
@@ -81,15 +68,6 @@ fn put_in_queue(out: &mut [u8], at: usize, q: InQueue)
     }
 }
 
-fn put_ins(out: &mut [u8], ins: [InQueue; 8]) {
-    let mut k = 0;
-    while k < 8 {
-        let q = ins[k];
-        put_in_queue(out, layout::INS_AT + layout::IN * k, q);
-        k += 1;
-    }
-}
-
 pub(crate) fn put_state(out: &mut [u8], s: Store) {
     let sizes = s.sizes;
     put_byte(out, 0, sizes.engines);
@@ -97,10 +75,14 @@ pub(crate) fn put_state(out: &mut [u8], s: Store) {
     put_byte(out, 2, sizes.depth);
     let memory = s.memory;
     put_words(out, layout::MEMORY_AT, memory);
-    let caches = s.caches;
-    put_caches(out, caches);
-    let outs = s.outs;
-    put_outs(out, outs);
-    let ins = s.ins;
-    put_ins(out, ins);
+    let mut k = 0;
+    while k < 8 {
+        let cache = s.caches[k];
+        put_cache(out, layout::CACHES_AT + layout::CACHE * k, cache);
+        let out_queue = s.outs[k];
+        put_out_queue(out, layout::OUTS_AT + layout::OUT * k, out_queue);
+        let in_queue = s.ins[k];
+        put_in_queue(out, layout::INS_AT + layout::IN * k, in_queue);
+        k += 1;
+    }
 }

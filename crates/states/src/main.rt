@@ -1,13 +1,13 @@
 // Takes each state and action on standard input through the step by value and through the step in place, and prints what they answer.
 mod decode;
 mod encode;
+mod event;
 mod layout;
-mod told;
 
 use layout::ITEM;
 use layout::STATE;
 use libc::STDIN_FILENO;
-use libc::STDOUT_FILENO;
+use stream::told;
 
 // A line: the number, the event, a hash of the next state, and whether both steps say the same.
 fn answer(item: &[u8]) {
@@ -21,20 +21,15 @@ fn answer(item: &[u8]) {
     let mut there = [0u8; STATE];
     let kept = in_place.store;
     encode::put_state(&mut there, kept);
-    told::tell_number(by_value.number);
-    told::tell_record(by_value.event);
-    told::tell_hash(&here);
-    let said = told::same_answer(
-        by_value.number,
-        by_value.event,
-        in_place.number,
-        in_place.event,
+    told::first_number(by_value.number);
+    event::tell(by_value.event);
+    told::hash_front(&here, STATE);
+    told::whether_same(
+        by_value.number == in_place.number
+            && event::same(by_value.event, in_place.event)
+            && check::same(&here, &there),
     );
-    if said && told::same(&here, &there) {
-        io::write_all(STDOUT_FILENO, b" same\n");
-    } else {
-        io::write_all(STDOUT_FILENO, b" DIFFERS\n");
-    }
+    told::text(b"\n");
 }
 
 // Reads one item and answers it; whether to go on.
@@ -46,7 +41,7 @@ fn answer_next() -> bool {
         return true;
     }
     if n != 0 {
-        io::write_all(STDOUT_FILENO, b"cut short\n");
+        told::cut_short();
     }
     false
 }

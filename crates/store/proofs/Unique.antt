@@ -8,10 +8,9 @@ use Rattle.figure.specs.declared.Sizes.{Sizes}
 use Rattle.shape.specs.Fresh.{made}
 use Rattle.shape.specs.Sound.{soundOf}
 use Rattle.shape.specs.Step.{stepped, answerOf}
-use Rattle.shape.specs.Turns.{Turned, FreshTurned}
+use Rattle.shape.specs.Turns.{FreshTurned}
 use Rattle.shape.specs.declared.Answer.{Answer}
 use Rattle.shape.specs.declared.Made.{Made}
-use Rattle.shape.specs.declared.OutQueue.{OutQueue}
 use Rattle.shape.specs.declared.Stepped.{Stepped}
 use Rattle.shape.specs.declared.Store.{Store}
 
@@ -21,13 +20,9 @@ fresh-one z table h h′ = h ∙ sym h′
 pub sound-one : (s : Store) {r r′ : Bool} → r ≡ soundOf s → r′ ≡ soundOf s → r ≡ r′
 sound-one s h h′ = h ∙ sym h′
 
--- the store, and every byte of the lent trace
-pub turns-one : (s : Store) (actions trace : List ℕ) {r r′ : Store} {t t′ : List ℕ} → Turned s actions trace r t → Turned s actions trace r′ t′ → (r ≡ r′) × (t ≡ t′)
-turns-one s actions trace h h′ = (h .store ∙ sym (h′ .store), h .trace-is ∙ sym (h′ .trace-is))
-
--- the out queues, and every byte of the lent trace
-pub from-fresh-one : (z : Sizes) (table actions trace : List ℕ) {r r′ : List OutQueue} {t t′ : List ℕ} → FreshTurned z table actions trace r t → FreshTurned z table actions trace r′ t′ → (r ≡ r′) × (t ≡ t′)
-from-fresh-one z table actions trace h h′ = (h .outs-are ∙ sym (h′ .outs-are), h .trace-is ∙ sym (h′ .trace-is))
+-- the number, and every byte of the lent trace
+pub from-fresh-one : (z : Sizes) (table actions trace : List ℕ) {r r′ : ℕ} {t t′ : List ℕ} → FreshTurned z table actions trace r t → FreshTurned z table actions trace r′ t′ → (r ≡ r′) × (t ≡ t′)
+from-fresh-one z table actions trace h h′ = (h .number ∙ sym (h′ .number), h .trace-is ∙ sym (h′ .trace-is))
 
 pub step-one : (s : Store) (x : Record) {r r′ : Stepped} → r ≡ stepped s x → r′ ≡ stepped s x → r ≡ r′
 step-one s x h h′ = h ∙ sym h′

@@ -1,12 +1,17 @@
-// The parts of a store: queues and caches, by value.
+// Queues and caches by value: what a move makes of each, and what a turn looks at in them.
 ghost use mathlib.Core.Path.{_≡_};
-ghost use mathlib.Core.Bool.{true};
-ghost use Prim.Native.Nat.{ℕ, _≤_, _<_};
-ghost use lib.ListN.{take, getD};
-ghost use Rattle.shape.specs.Parts.{any, all, firsts, outJoined, outLeft, inJoined, inLeft, ownWaits, cached, dropped, full, noIn};
+ghost use mathlib.Core.Bool.{true, false, _&&_, _||_};
+ghost use Prim.Native.Nat.{_≤_, _<_};
+ghost use lib.Dec.{leb};
+ghost use lib.ListN.{getD};
+ghost use Rattle.figure.specs.Refusals.{mostAddresses, mostDepth};
+ghost use Rattle.shape.specs.Parts.{outJoined, outLeft, inJoined, inLeft, ownWaits, noOutEntry, noInEntry};
 ghost use Rattle.shape.specs.Sound.{soundOut, soundIn};
-ghost use Rattle.shape.specs.declared.InQueue.{InQueue};
-use figure::Address;
+ghost use Rattle.decide.specs.Effect.{movedOut, leftIn, movedCache};
+use super::places;
+use decide::Look;
+use decide::Move;
+use figure::DEPTH;
 use figure::Engine;
 use figure::Sizes;
 use shape::Cache;
@@ -15,8 +20,8 @@ use shape::InQueue;
 use shape::OutEntry;
 use shape::OutQueue;
 
-pub(crate) fn out_join(q: OutQueue, x: OutEntry) -> OutQueue
-    requires { ⌜ q .len < 32 ⌝ }
+fn out_join(q: OutQueue, x: OutEntry) -> OutQueue
+    requires { ⌜ q .len < mostDepth ⌝ }
     ensures { λ r. ⌜ r ≡ outJoined x q ⌝ }
 {
     let n = q.len;
@@ -27,8 +32,8 @@ pub(crate) fn out_join(q: OutQueue, x: OutEntry) -> OutQueue
     r
 }
 
-pub(crate) fn out_leave(q: OutQueue) -> OutQueue
-    requires { ⌜ (0 < q .len) × (q .len ≤ 32) ⌝ }
+fn out_leave(q: OutQueue) -> OutQueue
+    requires { ⌜ (0 < q .len) × (q .len ≤ mostDepth) ⌝ }
     ensures { λ r. ⌜ r ≡ outLeft q ⌝ }
 {
     let n = q.len;
@@ -45,7 +50,7 @@ pub(crate) fn out_leave(q: OutQueue) -> OutQueue
 }
 
 pub(crate) fn in_join(q: InQueue, x: InEntry) -> InQueue
-    requires { ⌜ q .len < 32 ⌝ }
+    requires { ⌜ q .len < mostDepth ⌝ }
     ensures { λ r. ⌜ r ≡ inJoined x q ⌝ }
 {
     let n = q.len;
@@ -56,8 +61,8 @@ pub(crate) fn in_join(q: InQueue, x: InEntry) -> InQueue
     r
 }
 
-pub(crate) fn in_leave(q: InQueue) -> InQueue
-    requires { ⌜ (0 < q .len) × (q .len ≤ 32) ⌝ }
+fn in_leave(q: InQueue) -> InQueue
+    requires { ⌜ (0 < q .len) × (q .len ≤ mostDepth) ⌝ }
     ensures { λ r. ⌜ r ≡ inLeft q ⌝ }
 {
     let n = q.len;
@@ -73,11 +78,10 @@ pub(crate) fn in_leave(q: InQueue) -> InQueue
     r
 }
 
-pub(crate) fn own_waits(i: Engine, q: InQueue) -> bool
-    requires { ⌜ q .len ≤ 32 ⌝ }
+fn own_waits(i: Engine, q: InQueue) -> bool
     ensures { λ r. ⌜ r ≡ ownWaits i q ⌝ }
 {
-    let n = q.len as usize;
+    let n = places::at_most(q.len, DEPTH);
     let mut k: usize = 0;
     while k < n {
         let x = q.entries[k];
@@ -89,46 +93,8 @@ pub(crate) fn own_waits(i: Engine, q: InQueue) -> bool
     false
 }
 
-pub(crate) fn set_cached(c: Cache, a: Address, d: u32) -> Cache
-    requires { ⌜ a .0 < 64 ⌝ }
-    ensures { λ r. ⌜ r ≡ cached a d c ⌝ }
-{
-    let at = a.0 as usize;
-    let mut r = c;
-    r.present[at] = true;
-    r.data[at] = d;
-    r
-}
-
-pub(crate) fn drop_cached(c: Cache, a: Address) -> Cache
-    requires { ⌜ a .0 < 64 ⌝ }
-    ensures { λ r. ⌜ r ≡ dropped a c ⌝ }
-{
-    let at = a.0 as usize;
-    let mut r = c;
-    r.present[at] = false;
-    r
-}
-
-// Some in queue of the engines 1 to n is full.
-pub(crate) fn some_full(ins: [InQueue; 8], n: u8, depth: u8) -> bool
-    requires { ⌜ n ≤ 8 ⌝ }
-    ensures { λ r. ⌜ r ≡ any (λ (q : InQueue). full depth (q .len)) (take n ins) ⌝ }
-{
-    let m = n as usize;
-    let mut k: usize = 0;
-    while k < m {
-        let q = ins[k];
-        if depth <= q.len {
-            return true;
-        }
-        k += 1;
-    }
-    false
-}
-
 fn sound_out(q: OutQueue, z: Sizes) -> bool
-    requires { ⌜ z .depth ≤ 32 ⌝ }
+    requires { ⌜ z .depth ≤ mostDepth ⌝ }
     ensures { λ r. ⌜ r ≡ soundOut z q ⌝ }
 {
     if z.depth < q.len {
@@ -147,7 +113,7 @@ fn sound_out(q: OutQueue, z: Sizes) -> bool
 }
 
 fn sound_in(q: InQueue, z: Sizes) -> bool
-    requires { ⌜ z .depth ≤ 32 ⌝ }
+    requires { ⌜ z .depth ≤ mostDepth ⌝ }
     ensures { λ r. ⌜ r ≡ soundIn z q ⌝ }
 {
     if z.depth < q.len {
@@ -168,34 +134,88 @@ fn sound_in(q: InQueue, z: Sizes) -> bool
     true
 }
 
-pub(crate) fn sound_outs(outs: [OutQueue; 8], z: Sizes) -> bool
-    requires { ⌜ (z .engines ≤ 8) × (z .depth ≤ 32) ⌝ }
-    ensures { λ r. ⌜ r ≡ all (soundOut z) (take (z .engines) outs) ⌝ }
+// All was sound so far, sizes first, and one engine's queues are too.
+pub(crate) fn still_sound(right: bool, o: OutQueue, q: InQueue, z: Sizes) -> bool
+    requires { ⌜ (right ≡ true → z .depth ≤ mostDepth) ⌝ }
+    ensures { λ r. ⌜ r ≡ (right && (soundOut z o && soundIn z q)) ⌝ }
 {
-    let n = z.engines as usize;
-    let mut k: usize = 0;
-    while k < n {
-        let q = outs[k];
-        if !sound_out(q, z) {
-            return false;
-        }
-        k += 1;
+    if !right {
+        return false;
     }
-    true
+    sound_out(o, z) && sound_in(q, z)
 }
 
-pub(crate) fn sound_ins(ins: [InQueue; 8], z: Sizes) -> bool
-    requires { ⌜ (z .engines ≤ 8) × (z .depth ≤ 32) ⌝ }
-    ensures { λ r. ⌜ r ≡ all (soundIn z) (take (z .engines) ins) ⌝ }
+// Some queue so far is full, or the next one is.
+pub(crate) fn or_full(full: bool, len: u8, depth: u8) -> bool
+    ensures { λ r. ⌜ r ≡ (full || leb depth len) ⌝ }
 {
-    let n = z.engines as usize;
-    let mut k: usize = 0;
-    while k < n {
-        let q = ins[k];
-        if !sound_in(q, z) {
-            return false;
-        }
-        k += 1;
+    full || depth <= len
+}
+
+// What an action of engine i sees: its queues, its cache at address a, memory's word there, and whether it is blocked.
+pub(crate) fn look(
+    sound: bool,
+    i: Engine,
+    a: usize,
+    o: OutQueue,
+    q: InQueue,
+    c: Cache,
+    word: u32,
+    blocked: bool,
+) -> Look
+    requires { ⌜ a < mostAddresses ⌝ }
+    ensures { λ r. ⌜ r ≡ record { sound = sound; outs = o .len; ins = q .len; «first_out» = getD (o .entries) 0 noOutEntry; «first_in» = getD (q .entries) 0 noInEntry; own = ownWaits i q; blocked = blocked; held = getD (c .present) a false; cached = getD (c .«data») a 0; stored = word } ⌝ }
+{
+    let first_out = o.entries[0];
+    let first_in = q.entries[0];
+    Look {
+        sound,
+        outs: o.len,
+        ins: q.len,
+        first_out,
+        first_in,
+        own: own_waits(i, q),
+        blocked,
+        held: c.present[a],
+        cached: c.data[a],
+        stored: word,
     }
-    true
+}
+
+pub(crate) fn out_moved(q: OutQueue, m: Move) -> OutQueue
+    requires { ⌜ (m .«out_left» ≡ 1 → (0 < q .len) × (q .len ≤ mostDepth)) × (m .«out_joins» ≡ 1 → q .len < mostDepth) ⌝ }
+    ensures { λ r. ⌜ r ≡ movedOut m q ⌝ }
+{
+    if m.out_left == 1 {
+        return out_leave(q);
+    }
+    if m.out_joins == 1 {
+        let address = m.entry.address;
+        return out_join(
+            q,
+            OutEntry {
+                address,
+                data: m.entry.data,
+            },
+        );
+    }
+    q
+}
+
+pub(crate) fn in_left(q: InQueue, m: Move) -> InQueue
+    requires { ⌜ (m .«in_left» ≡ 1 → (0 < q .len) × (q .len ≤ mostDepth)) ⌝ }
+    ensures { λ r. ⌜ r ≡ leftIn m q ⌝ }
+{
+    if m.in_left == 1 { in_leave(q) } else { q }
+}
+
+pub(crate) fn cache_moved(c: Cache, m: Move) -> Cache
+    requires { ⌜ m .entry .address .0 < mostAddresses ⌝ }
+    ensures { λ r. ⌜ r ≡ movedCache m c ⌝ }
+{
+    let a = m.entry.address.0 as usize;
+    let mut r = c;
+    r.present[a] = decide::held(m, c.present[a]);
+    r.data[a] = decide::cached(m, c.data[a]);
+    r
 }

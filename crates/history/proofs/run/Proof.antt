@@ -1,7 +1,7 @@
 use mathlib.Core.List.{[]}
 use native.Mathlib.Omega.{arith}
 use denote.Ref.{now}
-use Rattle.history.specs.Pieces.{Taken}
+use Rattle.history.specs.Pieces.{Admitted}
 use Rattle.history.proofs.Answers.{ran-reader, ran-29, taken, actions-few}
 use borrow.Author.Needs.{needs}
 use Rattle.history.proofs.run.Statement.{statement}
@@ -32,7 +32,7 @@ returns-2 c =
     ran-29 (now (a .list)) (now (a .trace)) (now (a .account)) (r .read .result) (r .read .ensures) (c .before .before .if1 .left) (c .before .if2 .taken) (c .refused2 .result) (c .refused2 .ensures)
 
 -- past the reader's refusals and 29
-known : (c : tie.Else2) → let r = c .before .before in let a = r .before .before .before .before .args in Taken (now (a .list)) (r .read .result) (now (a .trace))
+known : (c : tie.Else2) → let r = c .before .before in let a = r .before .before .before .before .args in Admitted (now (a .list)) (r .read .result) (now (a .trace))
 known c =
     let r = c .before .before in
     record {
@@ -41,8 +41,11 @@ known c =
       room = c .if2 .left;
     }
 
-run-64-requires : tie.Need-run-64-requires
-run-64-requires c κs = (known (c .before .before .before), c .before .before .if3 .taken)
+run-sized-requires : tie.Need-run-sized-requires
+run-sized-requires c κs =
+    let e = c .before .before .before in
+    let r = e .before in
+    (known (c .before .before), actions-few (now (r .before .before .before .before .args .list)) [] [] (r .read .result) (r .read .ensures) (e .if1 .left))
 
 same-length : tie.Need-same-length
 same-length c = search needs
@@ -52,33 +55,6 @@ same-length-2 c = search needs
 
 returns-3 : tie.Need-returns-3
 returns-3 c = search needs
-
-run-512-requires : tie.Need-run-512-requires
-run-512-requires c κs = (known (c .before .before .before .before), c .before .before .if4 .taken)
-
-same-length-3 : tie.Need-same-length-3
-same-length-3 c = search needs
-
-same-length-4 : tie.Need-same-length-4
-same-length-4 c = search needs
-
-returns-4 : tie.Need-returns-4
-returns-4 c = search needs
-
-run-2048-requires : tie.Need-run-2048-requires
-run-2048-requires c κs =
-    let e = c .before .before .before .before .before in
-    let r = e .before in
-    (known (c .before .before .before .before), actions-few (now (r .before .before .before .before .args .list)) [] [] (r .read .result) (r .read .ensures) (e .if1 .left))
-
-same-length-5 : tie.Need-same-length-5
-same-length-5 c = search needs
-
-same-length-6 : tie.Need-same-length-6
-same-length-6 c = search needs
-
-returns-5 : tie.Need-returns-5
-returns-5 c = search needs
 
 pub run-spec : {M : Type 1} → statement M
 run-spec =
@@ -90,15 +66,7 @@ run-spec =
     mul-if2
     refused-requires-2
     returns-2
-    run-64-requires
+    run-sized-requires
     same-length
     same-length-2
-    returns-3
-    run-512-requires
-    same-length-3
-    same-length-4
-    returns-4
-    run-2048-requires
-    same-length-5
-    same-length-6
-    returns-5)
+    returns-3)

@@ -1,4 +1,3 @@
-use Rattle.history.proofs.Answers.{scratch}
 use borrow.Author.Needs.{needs}
 use Rattle.history.proofs.run_2048.Statement.{statement}
 use Rattle.history.proofs.run_2048.Tie as tie
@@ -19,7 +18,8 @@ slice-aggregate-run-in-5 : tie.Need-slice-aggregate-run-in-5
 slice-aggregate-run-in-5 c = search needs
 
 run-in-requires : tie.Need-run-in-requires
-run-in-requires c κs = let s = c .before .before .before .before .before .before .before .before .before .before in (s .pre .0, scratch 2048 (s .args .l .actions) (s .pre .1))
+run-in-requires c κs =
+    record { admitted = search needs; trace-fits = search needs; account-fits = search needs; keys-fit = search needs; order-fits = search needs; counts-fit = search needs }
 
 same-length : tie.Need-same-length
 same-length c = search needs

@@ -2,13 +2,19 @@ use mathlib.Core.Path.{sym}
 use native.Mathlib.Omega.{arith}
 use denote.Ref.{now}
 use lib.Seq.{length-take-le}
-use Rattle.history.proofs.Answers.{taken-few, traceable, handable, ran}
+use Rattle.history.proofs.Answers.{taken-few, table-room, traceable, handable, ran}
 use borrow.Author.Needs.{needs}
 use Rattle.history.proofs.run_in.Statement.{statement}
 use Rattle.history.proofs.run_in.Tie as tie
 
+cast-m : tie.Need-cast-m
+cast-m c = search needs
+
 add-m : tie.Need-add-m
 add-m c = search needs
+
+add-m-2 : tie.Need-add-m-2
+add-m-2 c = search needs
 
 memory-of-requires : tie.Need-memory-of-requires
 memory-of-requires c κs = search needs
@@ -20,32 +26,28 @@ slice-relend-prefix-write-account : tie.Need-slice-relend-prefix-write-account
 slice-relend-prefix-write-account c = search needs
 
 slice-aggregate-write-account : tie.Need-slice-aggregate-write-account
-slice-aggregate-write-account c = sym (length-take-le _ _ (c .before .before .before .before .before .before .before .before .before .before .before .before .before .before .before .before .pre .1 .keys-fit))
+slice-aggregate-write-account c = sym (length-take-le _ _ (c .before .before .before .before .before .before .before .before .before .before .before .before .before .before .before .before .before .pre .keys-fit))
 
 slice-relend-prefix-write-account-2 : tie.Need-slice-relend-prefix-write-account-2
-slice-relend-prefix-write-account-2 c = search needs
+slice-relend-prefix-write-account-2 c = table-room (c .before .before .before .before .before .before .before .before .before .before .before .before .before .before .before .before .before .before .pre)
 
 slice-aggregate-write-account-2 : tie.Need-slice-aggregate-write-account-2
-slice-aggregate-write-account-2 c = sym (length-take-le _ _ (c .before .before .before .before .before .before .before .before .before .before .before .before .before .before .before .before .before .before .pre .1 .counts-fit))
+slice-aggregate-write-account-2 c = sym (length-take-le _ _ (table-room (c .before .before .before .before .before .before .before .before .before .before .before .before .before .before .before .before .before .before .before .pre)))
 
 write-account-requires : tie.Need-write-account-requires
-write-account-requires c κs =
-    let w = c .before .before .before .before .before .before .before .before in
-    let s = w .before .before .before .before .before .before .before .before .before .before .before .pre in
-    traceable (s .0) (s .1) (w .write-trace .ensures)
+write-account-requires c κs = traceable (c .before .before .before .before .before .before .before .before .before .before .before .before .before .before .before .before .before .before .before .before .pre)
 
 mul-hand-over : tie.Need-mul-hand-over
-mul-hand-over c = omega (arith, taken-few (c .before .before .before .before .before .before .before .before .before .before .before .before .before .before .before .before .before .before .before .before .before .before .before .before .before .before .before .before .before .pre .0))
+mul-hand-over c = omega (arith, taken-few (c .before .before .before .before .before .before .before .before .before .before .before .before .before .before .before .before .before .before .before .before .before .before .before .before .before .before .before .before .before .before .pre .admitted))
 
 hand-over-requires : tie.Need-hand-over-requires
 hand-over-requires c κs =
     let a = c .before .before .before .before .before .before .before .before .before .before .before .before in
-    let w = a .before .before .before .before .before .before .before .before .before in
-    let s = w .before .before .before .before .before .before .before .before .before .before .before .pre in
-    handable (s .0) (s .1) (w .write-trace .ensures) (a .write-account .ensures)
+    let w = a .before .before .before .before .before .before .before .before in
+    handable (w .before .before .before .before .before .before .before .before .before .before .before .before .before .pre) (w .write-trace .ensures) (a .write-account .ensures)
 
 same-length : tie.Need-same-length
-same-length c = let g = c .before .before .before .before .before .before .before .before .before .before .before .before .before .before .before .before .before .before .before .before .before .before .before .before .before .t .given in search needs
+same-length c = search needs
 
 same-length-2 : tie.Need-same-length-2
 same-length-2 c = search needs
@@ -69,16 +71,18 @@ returns : tie.Need-returns
 returns c =
     let h = c .before .before .before .before in
     let a = h .before .before .before .before .before .before .before .before .before .before .before .before .before in
-    let w = a .before .before .before .before .before .before .before .before .before in
+    let w = a .before .before .before .before .before .before .before .before in
     let m = w .before .before .memory-of in
-    let s = w .before .before .before .before .before .before .before .before .before .before .before in
-    ran (s .pre .0) (s .pre .1) (w .write-trace .ensures) (a .write-account .ensures) (m .result) (now (s .args .account)) (m .ensures) (h .hand-over .ensures)
+    let s = w .before .before .before .before .before .before .before .before .before .before .before .before .before in
+    ran (s .pre) (w .write-trace .ensures) (a .write-account .ensures) (m .result) (now (s .args .account)) (m .ensures) (h .hand-over .ensures)
 
 pub run-in-spec : {M : Type 1} → statement M
 run-in-spec =
     tie.close
     (tie.spec
+    cast-m
     add-m
+    add-m-2
     memory-of-requires
     write-trace-requires
     slice-relend-prefix-write-account

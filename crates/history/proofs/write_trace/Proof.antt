@@ -39,7 +39,7 @@ returns : tie.Need-returns
 returns c =
     let s = c .before .before .before .before .before .before .before .before .before .before in
     let d = c .before .before .turns-from-fresh .ensures in
-    turned-traced (s .args .list .now) (s .args .l) (s .args .t .now) (s .pre .0) (s .args .t3) (s .pre .1) _ _ (d .outs-are) (d .trace-is)
+    turned-traced (s .args .list .now) (s .args .l) (s .args .t .now) (s .pre .0) (s .args .t3) (s .pre .1) _ d
 
 pub write-trace-spec : {M : Type 1} → statement M
 write-trace-spec =

@@ -2,16 +2,16 @@ use Prim.Native.Nat.{_≤_}
 use native.Mathlib.Omega.{arith}
 use denote.Ref.{now}
 use lib.ListN.{length}
-use Rattle.report.specs.Account.{accountText, mostAccountText}
-use Rattle.report.proofs.Bounds.{Counted, length-account}
+use Rattle.report.specs.Events.{accountText, mostAccountText}
+use Rattle.report.proofs.Bounds.{CountsFit, length-account-text}
 use borrow.Author.Needs.{needs}
 use Rattle.report.proofs.account_text.Statement.{statement}
 use Rattle.report.proofs.account_text.Tie as tie
 
 short : (c : tie.After-shared-slice-known) → length (accountText (c .before .args .counts) (now (c .before .args .account))) ≤ mostAccountText
 short c =
-    let counted : Counted (c .before .args .counts) = record { number-small = omega arith; accepted-fits = omega arith; refused-fits = omega arith; events-fits = omega arith; settled-fits = omega arith } in
-    length-account (c .before .args .counts) (now (c .before .args .account)) counted (λ i. c .shared-slice-known .given i .fits)
+    let counted : CountsFit (c .before .args .counts) = record { number-small = omega arith; accepted-fits = omega arith; refused-fits = omega arith; events-fits = omega arith; settled-fits = omega arith } in
+    length-account-text (c .before .args .counts) (now (c .before .args .account)) counted (λ i. c .shared-slice-known .given i .fits)
 
 put-account-requires : tie.Need-put-account-requires
 put-account-requires c κs = record { fits = omega (arith, short (c .before .before)) }

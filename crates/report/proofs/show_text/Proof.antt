@@ -2,8 +2,8 @@ use Prim.Native.Nat.{_≤_}
 use native.Mathlib.Omega.{arith}
 use denote.Ref.{now}
 use lib.ListN.{length}
-use Rattle.report.specs.Show.{showText, mostShowText}
-use Rattle.report.proofs.Bounds.{Counted}
+use Rattle.report.specs.Actions.{showText, mostShowText}
+use Rattle.report.proofs.Bounds.{CountsFit}
 use Rattle.report.proofs.ShowBounds.{length-show}
 use borrow.Author.Needs.{needs}
 use Rattle.report.proofs.show_text.Statement.{statement}
@@ -12,7 +12,7 @@ use Rattle.report.proofs.show_text.Tie as tie
 short : (c : tie.After-shared-slice-known3) → length (showText (now (c .before .before .before .args .list)) (c .before .before .before .args .counts) (now (c .before .before .before .args .trace)) (now (c .before .before .before .args .account))) ≤ mostShowText
 short c =
     let a = c .before .before .before .args in
-    let counted : Counted (a .counts) = record { number-small = omega arith; accepted-fits = omega arith; refused-fits = omega arith; events-fits = omega arith; settled-fits = omega arith } in
+    let counted : CountsFit (a .counts) = record { number-small = omega arith; accepted-fits = omega arith; refused-fits = omega arith; events-fits = omega arith; settled-fits = omega arith } in
     length-show (now (a .list)) (a .counts) (now (a .trace)) (now (a .account)) counted (λ i. c .before .before .shared-slice-known .given i .fits) (λ i. c .before .shared-slice-known2 .given i .fits) (λ i. c .shared-slice-known3 .given i .fits)
 
 put-show-requires : tie.Need-put-show-requires

@@ -5,9 +5,8 @@ use Prim.Native.Nat.{ℕ}
 use lib.ListN.{length}
 use Rattle.figure.specs.Refusals.{sizesRefused, firstOf}
 use Rattle.figure.specs.declared.Sizes.{Sizes}
-use Rattle.figure.proofs.First.{first-front, first-append, same-not, other-not}
+use Rattle.figure.proofs.First.{first-front, first-append, same-not, other-not, sizes-numbered}
 use Rattle.shape.specs.Fresh.{freshRefused}
-use Rattle.shape.proofs.Kept.{sizes-numbered}
 use borrow.Author.Needs.{needs}
 use Rattle.store.proofs.judge_fresh.Statement.{statement}
 use Rattle.store.proofs.judge_fresh.Tie as tie

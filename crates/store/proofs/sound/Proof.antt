@@ -1,46 +1,82 @@
--- `store::sound` meets its contract. Assumes nothing.
-use mathlib.Core.Path.{sym, _∙_}
-use borrow.Author.Tests.{eq-eqb, ne-eqb, not-true, not-false}
-use Rattle.shape.proofs.Kept.{Ranged, sizes-ranged}
-use Rattle.shape.specs.Sound.{soundOf}
+-- `store::sound` meets its contract. The invariant, Tested: the sizes and the first i engines' queues are sound. Assumes nothing.
+use mathlib.Core.Path.{_≡_, refl}
+use native.Mathlib.Omega.{arith}
+use Prim.Native.Nat.{_-_, _≤_}
+use lib.ListN.{length}
+use Rattle.store.proofs.Laws.{long}
+use Rattle.store.proofs.Tests.{Tested, tested-none, tested-more, tested-depth, tested-all}
 use borrow.Author.Needs.{needs}
 use Rattle.store.proofs.sound.Statement.{statement}
 use Rattle.store.proofs.sound.Tie as tie
 
-judge-sizes-requires : tie.Need-judge-sizes-requires
+abbrev Inv-loop : tie.InvT-loop
+Inv-loop s z n right₀ i₀ right i = (i ≤ n) × ((z ≡ s .sizes) × Tested s i right)
+
+abbrev μ-loop : tie.MeasureT-loop
+μ-loop s z n right₀ i₀ right i = n - i
+
+at-most-requires : tie.Need-at-most-requires Inv-loop μ-loop
+at-most-requires c κs = search needs
+
+judge-sizes-requires : tie.Need-judge-sizes-requires Inv-loop μ-loop
 judge-sizes-requires c κs = search needs
 
-returns : tie.Need-returns
-unfolding soundOf
-returns c = rw (← (c .before .judge-sizes .ensures), ne-eqb _ _ (c .if1 .taken))
+loop-holds : tie.Need-loop-holds Inv-loop μ-loop
+loop-holds c = (omega arith, (refl, tested-none (c .judge-sizes .ensures)))
 
-sound-outs-requires : tie.Need-sound-outs-requires
-sound-outs-requires c κs =
-    let r : Ranged (c .before .before .before .before .args .s .sizes) = sizes-ranged _ (sym (c .before .before .judge-sizes .ensures) ∙ c .before .if1 .left) in
-    (r .engines, r .depth)
+mul-o : tie.Need-mul-o Inv-loop μ-loop
+mul-o c = search needs
 
-returns-2 : tie.Need-returns-2
-unfolding soundOf
-returns-2 c =
-    rw (← (c .before .before .before .before .judge-sizes .ensures), eq-eqb _ _ (c .before .before .before .if1 .left), ← (c .before .sound-outs .ensures), not-true (c .before .sound-outs .result) (c .if2 .taken))
+element-copy-out-o : tie.Need-element-copy-out-o Inv-loop μ-loop
+element-copy-out-o c = search needs
 
-sound-ins-requires : tie.Need-sound-ins-requires
-sound-ins-requires c κs =
-    let r : Ranged (c .before .before .before .before .before .before .before .args .s .sizes) = sizes-ranged _ (sym (c .before .before .before .before .before .judge-sizes .ensures) ∙ c .before .before .before .before .if1 .left) in
-    (r .engines, r .depth)
+mul-q : tie.Need-mul-q Inv-loop μ-loop
+mul-q c = search needs
 
-returns-3 : tie.Need-returns-3
-unfolding soundOf
-returns-3 c =
-    rw (← (c .before .before .before .before .before .before .judge-sizes .ensures), eq-eqb _ _ (c .before .before .before .before .before .if1 .left), ← (c .before .before .before .sound-outs .ensures), not-false (c .before .before .before .sound-outs .result) (c .before .before .if2 .left)) (c .sound-ins .ensures)
+element-copy-out-q : tie.Need-element-copy-out-q Inv-loop μ-loop
+element-copy-out-q c = search needs
+
+still-sound-requires : tie.Need-still-sound-requires Inv-loop μ-loop
+still-sound-requires c κs = λ e. tested-depth (c .before .before .before .loop .inv .1 .1) e
+
+add-i : tie.Need-add-i Inv-loop μ-loop
+add-i c = search needs
+
+loop-less : tie.Need-loop-less Inv-loop μ-loop
+loop-less c = search needs
+
+loop-again : tie.Need-loop-again Inv-loop μ-loop
+loop-again c =
+    let s = c .before .before .before .before .before .before .before .before .args .t1 in
+    let l = c .before .before .before .before .loop in
+    let n = c .before .before .before .before .before .before .at-most .ensures in
+    let a : length (s .outs) ≡ 8 = search (needs, long) in
+    let b : length (s .ins) ≡ 8 = search (needs, long) in
+    (omega arith, (refl, tested-more (l .inv .1 .1) (omega arith) (omega arith) (c .still-sound .ensures)))
+
+returns : tie.Need-returns Inv-loop μ-loop
+returns c =
+    let s = c .before .before .before .before .before .args .t1 in
+    let n = c .before .before .before .at-most .ensures in
+    let a : length (s .outs) ≡ 8 = search (needs, long) in
+    let b : length (s .ins) ≡ 8 = search (needs, long) in
+    tested-all (c .before .loop .inv .1 .1) (omega arith) a b
 
 pub sound-spec : {M : Type 1} → statement M
 sound-spec =
     tie.close
     (tie.spec
+    Inv-loop
+    μ-loop
+    at-most-requires
     judge-sizes-requires
-    returns
-    sound-outs-requires
-    returns-2
-    sound-ins-requires
-    returns-3)
+    loop-holds
+    mul-o
+    element-copy-out-o
+    mul-q
+    element-copy-out-q
+    still-sound-requires
+    add-i
+    loop-less
+    loop-again
+    returns)

@@ -3,7 +3,7 @@ use native.Mathlib.Omega.{arith}
 use borrow.Author.Needs.{needs}
 use mathlib.Core.Path.{refl, _∙_}
 use Rattle.shape.specs.Turns.{actionAt}
-use Rattle.demands.specs.Lines.{lineWidth}
+use Rattle.lists.specs.Line.{lineWidth}
 use Rattle.history.specs.Pieces.{placedLine}
 use Rattle.history.proofs.Firsts.{Firsts, firsts-none, firsts-long, firsts-room, firsts-more, firsts-all}
 use Rattle.history.proofs.lines.put_placed.Statement.{statement}
@@ -33,16 +33,16 @@ mul-record-at c = omega (arith, c .shared-slice-known4 .given (c .before .before
 record-at-requires : tie.Need-record-at-requires Inv-loop μ-loop
 record-at-requires c κs = search needs
 
-mul-number-of : tie.Need-mul-number-of Inv-loop μ-loop
-mul-number-of c = omega (arith, c .before .shared-slice-known4 .given (c .before .before .before .loop .p))
+mul-number-in : tie.Need-mul-number-in Inv-loop μ-loop
+mul-number-in c = omega (arith, c .before .shared-slice-known4 .given (c .before .before .before .loop .p))
 
-shared-slice-read-number-of : tie.Need-shared-slice-read-number-of Inv-loop μ-loop
-shared-slice-read-number-of c =
+shared-slice-read-number-in : tie.Need-shared-slice-read-number-in Inv-loop μ-loop
+shared-slice-read-number-in c =
     let i = c .before .before .before in
     i .before .before .before .before .before .before .pre .within (i .before .loop .p) (i .loop-test .taken)
 
-number-of-requires : tie.Need-number-of-requires Inv-loop μ-loop
-number-of-requires c κs = search needs
+number-in-requires : tie.Need-number-in-requires Inv-loop μ-loop
+number-in-requires c κs = search needs
 
 mul-put-line : tie.Need-mul-put-line Inv-loop μ-loop
 mul-put-line c = search needs
@@ -61,7 +61,7 @@ loop-less c = search needs
 loop-again : tie.Need-loop-again Inv-loop μ-loop
 loop-again c =
     let s = c .before .before .before .before .before .before .before .before in
-    let number = c .before .before .before .before .number-of .ensures in
+    let number = c .before .before .before .before .number-in .ensures in
     let event = c .before .before .before .before .before .before .record-at .ensures in
     firsts-more (λ x. refl) 0 {place = lineWidth * s .before .loop .p} (s .before .loop .inv) (s .loop-test .taken) (c .before .before .put-line .ensures ∙ rw (number, event)) (omega arith)
 
@@ -83,9 +83,9 @@ put-placed-spec =
     cast-j
     mul-record-at
     record-at-requires
-    mul-number-of
-    shared-slice-read-number-of
-    number-of-requires
+    mul-number-in
+    shared-slice-read-number-in
+    number-in-requires
     mul-put-line
     put-line-requires
     add-p

@@ -3,7 +3,8 @@ use mathlib.Core.Logic.{⊎-elim}
 use Prim.Native.Nat.{ℕ, _+_, _-_, _≤_}
 use native.Mathlib.Omega.{arith}
 use borrow.Author.Needs.{needs}
-use Rattle.history.specs.Pieces.{wn, lowestFloor}
+use Rattle.figure.specs.Ledger.{wn}
+use Rattle.history.specs.Pieces.{lowestFloor}
 use Rattle.history.proofs.Marking.{lowest-new, lowest-same}
 use Rattle.history.proofs.marks.lowest_floor.Statement.{statement}
 use Rattle.history.proofs.marks.lowest_floor.Tie as tie

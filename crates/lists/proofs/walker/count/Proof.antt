@@ -50,7 +50,7 @@ use denote.Triple.Walked.{says, Stays, stay-none-slice, walkOf, goes-none-slice,
 use denote.Exit.{yes}
 use borrow.Table.OneValue.{part-in-at, part-out-at}
 use Rattle.lists.specs.Read.{actionsOf}
-use Rattle.lists.specs.Walk.{handed, isAction, Stepped}
+use Rattle.lists.specs.Walk.{handed, isAction, WalkerTook}
 use Rattle.lists.specs.declared.walker.Walker.{Walker}
 use Rattle.lists.specs.declared.walker.Found.{Found}
 use Rattle.lists.proofs.Actions.{few-actions, is-there, counts-one}
@@ -85,7 +85,7 @@ stayed = (stay-none-slice (0 ∷ []) tt (plain (λ _. u8)) yes, tt)
 abbrev advanced : Walker → Found → Walker
 advanced w r = record { list = w .list; place = w .place + length (handed r) }
 
-moves : {w w′ : Walker} {r : Found} → Stepped w r w′ → w′ ≡ advanced w r
+moves : {w w′ : Walker} {r : Found} → WalkerTook w r w′ → w′ ≡ advanced w r
 moves moved k = record { list = moved .list-is k; place = moved .took .after-is k }
 
 is-true : (t : Bool) → Holds t → t ≡ true
@@ -156,7 +156,7 @@ module _ {M : Type 1} (𝓤 : URA M) (H : Heap 𝓤) (A : Atoms 𝓤) (W : Given
       nothing ! $ move ! (2 ∷ 0 ∷ []) $ fjoin ! $ move ! (1 ∷ 0 ∷ []) $ join ! $ frame ! $ done !
 
   abbrev Moved : Walker → Found → Walker → Type 0
-  Moved w r w′ = Stepped w r w′
+  Moved w r w′ = WalkerTook w r w′
 
   -- the call of `is_action`
   abbrev to-is : Found → Val → IsAction 𝓤 H A at-mem run .Ghost

@@ -9,7 +9,7 @@ use Rattle.figure.specs.Refusals.{firstOf}
 use Rattle.lists.specs.Read.{headerWidth, listBytes}
 use Rattle.lists.specs.Write.{writeRefused}
 use Rattle.lists.proofs.Wire.{length-list, written-parts}
-use Rattle.lists.proofs.Wrote.{Counted, counted, wrote-none, wrote-all}
+use Rattle.lists.proofs.Wrote.{ListFits, list-fits, wrote-none, wrote-all}
 use borrow.Author.Needs.{needs}
 use Rattle.lists.proofs.writer.write.Statement.{statement}
 use Rattle.lists.proofs.writer.write.Tie as tie
@@ -21,10 +21,10 @@ judge-requires c κs = search needs
 taken : (c : tie.Else1) → firstOf (writeRefused (c .before .before .before .before .before .args .sizes) (now (c .before .before .before .before .before .args .memory)) (now (c .before .before .before .before .before .args .actions)) (length (now (c .before .before .before .before .before .args .out)))) ≡ 0
 taken c = sym (c .before .judge .ensures) ∙ c .if1 .left
 
-known : (c : tie.Else1) → Counted (now (c .before .before .before .before .before .args .memory)) (now (c .before .before .before .before .before .args .actions)) (length (now (c .before .before .before .before .before .args .out)))
+known : (c : tie.Else1) → ListFits (now (c .before .before .before .before .before .args .memory)) (now (c .before .before .before .before .before .args .actions)) (length (now (c .before .before .before .before .before .args .out)))
 known c =
     let a = c .before .before .before .before .before .args in
-    counted (a .sizes) (now (a .memory)) (now (a .actions)) (length (now (a .out))) (taken c)
+    list-fits (a .sizes) (now (a .memory)) (now (a .actions)) (length (now (a .out))) (taken c)
 
 returns : tie.Need-returns
 returns c =

@@ -3,13 +3,13 @@ use mathlib.Core.List.{[], _∷_}
 use native.Mathlib.Omega.{arith}
 use Rattle.report.specs.Text.{ascii}
 use Rattle.report.specs.Decimal.{decimal, field}
-use Rattle.report.proofs.Written.{joined, after, Rooms, room-first, rooms-after, wrote-one, wrote-append}
+use Rattle.report.proofs.Written.{joined, onward, Rooms, room-first, rooms-after, wrote-one, printed-append}
 use borrow.Author.Needs.{needs}
 use Rattle.report.proofs.decimal.put_field.Statement.{statement}
 use Rattle.report.proofs.decimal.put_field.Tie as tie
 
 room : (c : tie.Start) → Rooms (c .args .at) (ascii " " ∷ decimal (c .args .n) ∷ [])
-unfolding joined after field
+unfolding joined onward field
 room c = record { all = c .pre }
 
 put-byte-requires : tie.Need-put-byte-requires
@@ -26,7 +26,7 @@ same-length c = search needs
 
 returns : tie.Need-returns
 unfolding field
-returns c = wrote-append (wrote-one (c .before .before .before .before .before .before .put-byte .ensures)) (c .before .before .put-decimal .ensures)
+returns c = printed-append (wrote-one (c .before .before .before .before .before .before .put-byte .ensures)) (c .before .before .put-decimal .ensures)
 
 pub put-field-spec : {M : Type 1} → statement M
 put-field-spec =

@@ -1,13 +1,13 @@
 use mathlib.Core.List.{[], _∷_}
 use denote.Ref.{now}
 use Rattle.report.specs.Decimal.{decimal, labelled}
-use Rattle.report.proofs.Written.{joined, after, Rooms, room-first, rooms-after, wrote-append}
+use Rattle.report.proofs.Written.{joined, onward, Rooms, room-first, rooms-after, printed-append}
 use borrow.Author.Needs.{needs}
 use Rattle.report.proofs.decimal.put_labelled.Statement.{statement}
 use Rattle.report.proofs.decimal.put_labelled.Tie as tie
 
 room : (c : tie.Start) → Rooms (c .args .at) (now (c .args .label) ∷ decimal (c .args .n) ∷ [])
-unfolding joined after labelled
+unfolding joined onward labelled
 room c = record { all = c .pre }
 
 put-text-requires : tie.Need-put-text-requires
@@ -21,7 +21,7 @@ same-length c = search needs
 
 returns : tie.Need-returns
 unfolding labelled
-returns c = wrote-append (c .before .before .before .before .before .before .put-text .ensures) (c .before .before .put-decimal .ensures)
+returns c = printed-append (c .before .before .before .before .before .before .put-text .ensures) (c .before .before .put-decimal .ensures)
 
 pub put-labelled-spec : {M : Type 1} → statement M
 put-labelled-spec = tie.close (tie.spec put-text-requires put-decimal-requires same-length returns)

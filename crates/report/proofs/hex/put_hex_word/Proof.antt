@@ -1,13 +1,13 @@
 use Prim.Native.Nat.{_/_, _%_}
 use Rattle.report.specs.Hex.{hexByte, hexWord}
 use mathlib.Core.List.{[], _∷_}
-use Rattle.report.proofs.Written.{joined, after, Rooms, room-first, rooms-after, wrote-append}
+use Rattle.report.proofs.Written.{joined, onward, Rooms, room-first, rooms-after, printed-append}
 use borrow.Author.Needs.{needs}
 use Rattle.report.proofs.hex.put_hex_word.Statement.{statement}
 use Rattle.report.proofs.hex.put_hex_word.Tie as tie
 
 room : (c : tie.Start) → Rooms (c .args .at) (hexByte (c .args .x / 16777216) ∷ hexByte (c .args .x / 65536 % 256) ∷ hexByte (c .args .x / 256 % 256) ∷ hexByte (c .args .x % 256) ∷ [])
-unfolding joined after hexWord
+unfolding joined onward hexWord
 room c = record { all = c .pre }
 
 cast-put-hex-byte : tie.Need-cast-put-hex-byte
@@ -39,7 +39,7 @@ same-length c = search needs
 
 returns : tie.Need-returns
 unfolding hexWord
-returns c = wrote-append (wrote-append (wrote-append (c .before .before .before .before .before .before .before .before .before .before .before .before .before .before .put-hex-byte .ensures) (c .before .before .before .before .before .before .before .before .before .before .put-hex-byte2 .ensures)) (c .before .before .before .before .before .before .put-hex-byte3 .ensures)) (c .before .before .put-hex-byte4 .ensures)
+returns c = printed-append (printed-append (printed-append (c .before .before .before .before .before .before .before .before .before .before .before .before .before .before .put-hex-byte .ensures) (c .before .before .before .before .before .before .before .before .before .before .put-hex-byte2 .ensures)) (c .before .before .before .before .before .before .put-hex-byte3 .ensures)) (c .before .before .put-hex-byte4 .ensures)
 
 pub put-hex-word-spec : {M : Type 1} → statement M
 put-hex-word-spec =

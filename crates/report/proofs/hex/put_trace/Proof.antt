@@ -2,13 +2,13 @@ use Prim.Native.Nat.{_/_, _%_, _^_}
 use Rattle.report.specs.Text.{ascii, newline}
 use Rattle.report.specs.Hex.{hexWord, traceText}
 use mathlib.Core.List.{[], _∷_}
-use Rattle.report.proofs.Written.{joined, after, Rooms, room-first, rooms-after, wrote-append}
+use Rattle.report.proofs.Written.{joined, onward, Rooms, room-first, rooms-after, printed-append}
 use borrow.Author.Needs.{needs}
 use Rattle.report.proofs.hex.put_trace.Statement.{statement}
 use Rattle.report.proofs.hex.put_trace.Tie as tie
 
 room : (c : tie.Start) → Rooms (c .args .at) (ascii "trace " ∷ hexWord (c .args .hash / 2 ^ 32) ∷ hexWord (c .args .hash % 2 ^ 32) ∷ newline ∷ [])
-unfolding joined after traceText
+unfolding joined onward traceText
 room c = record { all = c .pre }
 
 slice-aggregate-put-text : tie.Need-slice-aggregate-put-text
@@ -37,7 +37,7 @@ same-length c = search needs
 
 returns : tie.Need-returns
 unfolding traceText
-returns c = wrote-append (wrote-append (wrote-append (c .before .before .before .before .before .before .before .before .before .before .before .before .before .before .put-text .ensures) (c .before .before .before .before .before .before .before .before .before .before .put-hex-word .ensures)) (c .before .before .before .before .before .before .put-hex-word2 .ensures)) (c .before .before .put-newline .ensures)
+returns c = printed-append (printed-append (printed-append (c .before .before .before .before .before .before .before .before .before .before .before .before .before .before .put-text .ensures) (c .before .before .before .before .before .before .before .before .before .before .put-hex-word .ensures)) (c .before .before .before .before .before .before .put-hex-word2 .ensures)) (c .before .before .put-newline .ensures)
 
 pub put-trace-spec : {M : Type 1} → statement M
 put-trace-spec =

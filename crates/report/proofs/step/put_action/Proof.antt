@@ -1,13 +1,13 @@
 use Rattle.report.specs.Decimal.{field}
-use Rattle.report.specs.Show.{kindName, showsAddress, showsData, fieldWhen, actionText}
+use Rattle.report.specs.Actions.{kindName, showsAddress, showsData, fieldWhen, actionText}
 use mathlib.Core.List.{[], _∷_}
-use Rattle.report.proofs.Written.{joined, after, Rooms, room-first, rooms-after, wrote-append}
+use Rattle.report.proofs.Written.{joined, onward, Rooms, room-first, rooms-after, printed-append}
 use borrow.Author.Needs.{needs}
 use Rattle.report.proofs.step.put_action.Statement.{statement}
 use Rattle.report.proofs.step.put_action.Tie as tie
 
 room : (c : tie.Start) → Rooms (c .args .at) (kindName (c .args .a .kind) ∷ field (c .args .a .engine .0) ∷ fieldWhen (showsAddress (c .args .a .kind)) (c .args .a .address .0) ∷ fieldWhen (showsData (c .args .a .kind)) (c .args .a .«data») ∷ [])
-unfolding joined after actionText
+unfolding joined onward actionText
 room c = record { all = c .pre }
 
 put-name-requires : tie.Need-put-name-requires
@@ -39,7 +39,7 @@ same-length c = search needs
 
 returns : tie.Need-returns
 unfolding actionText
-returns c = wrote-append (wrote-append (wrote-append (c .before .before .before .before .before .before .before .before .before .before .before .before .before .before .before .before .before .before .before .put-name .ensures) (c .before .before .before .before .before .before .before .before .before .before .before .before .before .before .put-field .ensures)) (rw (c .before .before .before .before .before .before .before .before .before .before .shows-address .ensures) at (c .before .before .before .before .before .before .before .before .put-field-when .ensures))) (c .before .before .put-field-when2 .ensures)
+returns c = printed-append (printed-append (printed-append (c .before .before .before .before .before .before .before .before .before .before .before .before .before .before .before .before .before .before .before .put-name .ensures) (c .before .before .before .before .before .before .before .before .before .before .before .before .before .before .put-field .ensures)) (rw (c .before .before .before .before .before .before .before .before .before .before .shows-address .ensures) at (c .before .before .before .before .before .before .before .before .put-field-when .ensures))) (c .before .before .put-field-when2 .ensures)
 
 pub put-action-spec : {M : Type 1} → statement M
 put-action-spec =

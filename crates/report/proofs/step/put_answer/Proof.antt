@@ -1,15 +1,15 @@
 use mathlib.Core.Bool.{not}
 use lib.Dec.{eqb}
 use Rattle.report.specs.Text.{ascii}
-use Rattle.report.specs.Show.{showsAddress, noAnswer, fieldWhen, okWhen, answerText}
+use Rattle.report.specs.Actions.{showsAddress, noAnswer, fieldWhen, okWhen, answerText}
 use mathlib.Core.List.{[], _∷_}
-use Rattle.report.proofs.Written.{joined, after, Rooms, room-first, rooms-after, wrote-append}
+use Rattle.report.proofs.Written.{joined, onward, Rooms, room-first, rooms-after, printed-append}
 use borrow.Author.Needs.{needs}
 use Rattle.report.proofs.step.put_answer.Statement.{statement}
 use Rattle.report.proofs.step.put_answer.Tie as tie
 
 room : (c : tie.Start) → Rooms (c .args .at) (ascii " ->" ∷ fieldWhen (eqb (c .args .kind) 5) (c .args .e .origin .0) ∷ fieldWhen (not (showsAddress (c .args .kind))) (c .args .e .address .0) ∷ fieldWhen (not (noAnswer (c .args .kind))) (c .args .e .«data») ∷ okWhen (noAnswer (c .args .kind)) ∷ [])
-unfolding joined after answerText
+unfolding joined onward answerText
 room c = record { all = c .pre }
 
 slice-aggregate-put-text : tie.Need-slice-aggregate-put-text
@@ -53,7 +53,7 @@ same-length c = search needs
 
 returns : tie.Need-returns
 unfolding answerText
-returns c = wrote-append (wrote-append (wrote-append (wrote-append (c .before .before .before .before .before .before .before .before .before .before .before .before .before .before .before .before .before .before .before .before .before .before .before .before .put-text .ensures) (c .before .before .before .before .before .before .before .before .before .before .before .before .before .before .before .before .before .before .before .put-field-when .ensures)) (rw (c .before .before .before .before .before .before .before .before .before .before .before .before .before .before .before .shows-address .ensures) at (c .before .before .before .before .before .before .before .before .before .before .before .before .before .put-field-when2 .ensures))) (rw (c .before .before .before .before .before .before .before .before .before .has-no-answer .ensures) at (c .before .before .before .before .before .before .before .put-field-when3 .ensures))) (rw (c .before .before .before .has-no-answer2 .ensures) at (c .before .before .put-ok-when .ensures))
+returns c = printed-append (printed-append (printed-append (printed-append (c .before .before .before .before .before .before .before .before .before .before .before .before .before .before .before .before .before .before .before .before .before .before .before .before .put-text .ensures) (c .before .before .before .before .before .before .before .before .before .before .before .before .before .before .before .before .before .before .before .put-field-when .ensures)) (rw (c .before .before .before .before .before .before .before .before .before .before .before .before .before .before .before .shows-address .ensures) at (c .before .before .before .before .before .before .before .before .before .before .before .before .before .put-field-when2 .ensures))) (rw (c .before .before .before .before .before .before .before .before .before .has-no-answer .ensures) at (c .before .before .before .before .before .before .before .put-field-when3 .ensures))) (rw (c .before .before .before .has-no-answer2 .ensures) at (c .before .before .put-ok-when .ensures))
 
 pub put-answer-spec : {M : Type 1} → statement M
 put-answer-spec =

@@ -1,15 +1,15 @@
 use denote.Ref.{now}
 use Rattle.lists.specs.Record.{recordWidth}
 use Rattle.report.specs.Text.{ascii, series}
-use Rattle.report.specs.Show.{byteField, bytesText}
+use Rattle.report.specs.Actions.{byteField, bytesText}
 use mathlib.Core.List.{[], _∷_}
-use Rattle.report.proofs.Written.{joined, after, Rooms, room-first, rooms-after, wrote-append}
+use Rattle.report.proofs.Written.{joined, onward, Rooms, room-first, rooms-after, printed-append}
 use borrow.Author.Needs.{needs}
 use Rattle.report.proofs.step.put_bytes.Statement.{statement}
 use Rattle.report.proofs.step.put_bytes.Tie as tie
 
 room : (c : tie.Start) → Rooms (c .args .at) (ascii " bytes" ∷ series (byteField (now (c .args .list)) (c .args .i)) recordWidth ∷ [])
-unfolding joined after bytesText
+unfolding joined onward bytesText
 room c = record { all = c .pre .0 }
 
 slice-aggregate-put-text : tie.Need-slice-aggregate-put-text
@@ -26,7 +26,7 @@ same-length c = search needs
 
 returns : tie.Need-returns
 unfolding bytesText
-returns c = wrote-append (c .before .before .before .before .before .before .put-text .ensures) (c .before .before .put-record-bytes .ensures)
+returns c = printed-append (c .before .before .before .before .before .before .put-text .ensures) (c .before .before .put-record-bytes .ensures)
 
 pub put-bytes-spec : {M : Type 1} → statement M
 put-bytes-spec =

@@ -1,4 +1,4 @@
-use Rattle.report.proofs.Steps.{wrote-none, ok-shown, ok-left}
+use Rattle.report.proofs.Steps.{printed-none, ok-shown, ok-left}
 use borrow.Author.Needs.{needs}
 use Rattle.report.proofs.step.put_ok_when.Statement.{statement}
 use Rattle.report.proofs.step.put_ok_when.Tie as tie
@@ -16,7 +16,7 @@ returns : tie.Need-returns
 returns c = rw (ok-shown (c .before .before .before .before .before .before .before .args .shown) (c .before .before .before .before .before .if1 .taken)) (c .before .before .put-text .ensures)
 
 returns-2 : tie.Need-returns-2
-returns-2 c = rw (ok-left (c .before .before .args .shown) (c .if1 .left)) wrote-none
+returns-2 c = rw (ok-left (c .before .before .args .shown) (c .if1 .left)) printed-none
 
 pub put-ok-when-spec : {M : Type 1} → statement M
 put-ok-when-spec =

@@ -5,8 +5,8 @@ use native.Mathlib.Omega.{arith}
 use borrow.Author.Needs.{needs}
 use Rattle.lists.specs.Record.{recordWidth}
 use Rattle.report.specs.Text.{ascii, Room}
-use Rattle.report.specs.Show.{byteField}
-use Rattle.report.proofs.Written.{joined, after, Rooms, room-first, rooms-after, wrote-one, wrote-append}
+use Rattle.report.specs.Actions.{byteField}
+use Rattle.report.proofs.Written.{joined, onward, Rooms, room-first, rooms-after, wrote-one, printed-append}
 use Rattle.report.proofs.Series.{Lining, lining-none, lining-room, lining-more, lining-long, lining-all}
 use Rattle.report.proofs.step.put_record_bytes.Statement.{statement}
 use Rattle.report.proofs.step.put_record_bytes.Tie as tie
@@ -18,7 +18,7 @@ abbrev μ-loop : tie.MeasureT-loop
 μ-loop out₀ at list i next₀ k₀ out next k = recordWidth - k
 
 spaced : {n : ℕ} {text : List ℕ} → Room n (ascii " " ++ text) → Rooms n (ascii " " ∷ text ∷ [])
-unfolding joined after
+unfolding joined onward
 spaced p = record { all = p }
 
 loop-holds : tie.Need-loop-holds Inv-loop μ-loop
@@ -46,7 +46,7 @@ loop-less : tie.Need-loop-less Inv-loop μ-loop
 loop-less c = search needs
 
 loop-again : tie.Need-loop-again Inv-loop μ-loop
-loop-again c = lining-more (c .before .before .before .before .before .before .before .before .before .before .loop .inv) (c .before .before .before .before .before .before .before .before .before .loop-test .taken) (wrote-append (wrote-one (c .before .before .before .before .before .before .before .put-byte .ensures)) (c .before .before .put-hex-byte .ensures))
+loop-again c = lining-more (c .before .before .before .before .before .before .before .before .before .before .loop .inv) (c .before .before .before .before .before .before .before .before .before .loop-test .taken) (printed-append (wrote-one (c .before .before .before .before .before .before .before .put-byte .ensures)) (c .before .before .put-hex-byte .ensures))
 
 same-length : tie.Need-same-length Inv-loop μ-loop
 same-length c = lining-long (c .before .loop .inv)

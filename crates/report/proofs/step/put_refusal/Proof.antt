@@ -1,4 +1,4 @@
-use Rattle.report.specs.Show.{refusalText}
+use Rattle.report.specs.Actions.{refusalText}
 use borrow.Author.Needs.{needs}
 use Rattle.report.proofs.step.put_refusal.Statement.{statement}
 use Rattle.report.proofs.step.put_refusal.Tie as tie

@@ -3,8 +3,8 @@ use mathlib.Core.Bool.{true, false}
 use mathlib.Core.List.{[], _∷_}
 use denote.Ref.{now}
 use Rattle.lists.specs.Record.{recordAt}
-use Rattle.report.specs.Show.{wellFormed, actionText, outcomeText, refusalText, bytesText}
-use Rattle.report.proofs.Written.{joined, after, Rooms, room-first, rooms-after, wrote-append}
+use Rattle.report.specs.Actions.{wellFormed, actionText, outcomeText, refusalText, bytesText}
+use Rattle.report.proofs.Written.{joined, onward, Rooms, room-first, rooms-after, printed-append}
 use Rattle.report.proofs.Steps.{step-well, step-badly}
 use borrow.Author.Needs.{needs}
 use Rattle.report.proofs.step.put_step.Statement.{statement}
@@ -15,11 +15,11 @@ tested : (c : tie.After-is-well-formed) → wellFormed (recordAt (now (c .before
 tested c = sym (c .is-well-formed .ensures ∙ ap wellFormed (c .before .record-at .ensures))
 
 well : (c : tie.Start) → wellFormed (recordAt (now (c .args .list)) (c .args .i)) ≡ true → Rooms (c .args .at) (actionText (recordAt (now (c .args .list)) (c .args .i)) ∷ outcomeText (recordAt (now (c .args .list)) (c .args .i) .kind) (c .args .e) ∷ [])
-unfolding joined after
+unfolding joined onward
 well c h = record { all = rw (step-well (now (c .args .list)) (c .args .i) (c .args .e) h) at (c .pre .0) }
 
 badly : (c : tie.Start) → wellFormed (recordAt (now (c .args .list)) (c .args .i)) ≡ false → Rooms (c .args .at) (bytesText (now (c .args .list)) (c .args .i) ∷ refusalText (c .args .e) ∷ [])
-unfolding joined after
+unfolding joined onward
 badly c h = record { all = rw (step-badly (now (c .args .list)) (c .args .i) (c .args .e) h) at (c .pre .0) }
 
 record-at-requires : tie.Need-record-at-requires
@@ -41,7 +41,7 @@ returns : tie.Need-returns
 returns c =
     let a = c .before .before .before .before .before .before .before .before .before .before .before .before .before .args in
     let e = c .before .before .before .before .before .before .before .before .before .before .record-at .ensures in
-    rw (step-well (now (a .list)) (a .i) (a .e) (tested (c .before .before .before .before .before .before .before .before .before) ∙ c .before .before .before .before .before .before .before .before .if1 .taken)) (wrote-append (rw (e) at (c .before .before .before .before .before .before .put-action .ensures)) (rw (e) at (c .before .before .put-outcome .ensures)))
+    rw (step-well (now (a .list)) (a .i) (a .e) (tested (c .before .before .before .before .before .before .before .before .before) ∙ c .before .before .before .before .before .before .before .before .if1 .taken)) (printed-append (rw (e) at (c .before .before .before .before .before .before .put-action .ensures)) (rw (e) at (c .before .before .put-outcome .ensures)))
 
 put-bytes-requires : tie.Need-put-bytes-requires
 put-bytes-requires c κs = (room-first (badly (c .before .before .before .before .before .before) (tested (c .before .before) ∙ c .before .if1 .left)), c .before .before .before .before .before .before .pre .1)
@@ -55,7 +55,7 @@ same-length-2 c = search needs
 returns-2 : tie.Need-returns-2
 returns-2 c =
     let a = c .before .before .before .before .before .before .before .before .before .before .before .before .before .args in
-    rw (step-badly (now (a .list)) (a .i) (a .e) (tested (c .before .before .before .before .before .before .before .before .before) ∙ c .before .before .before .before .before .before .before .before .if1 .left)) (wrote-append (c .before .before .before .before .before .before .put-bytes .ensures) (c .before .before .put-refusal .ensures))
+    rw (step-badly (now (a .list)) (a .i) (a .e) (tested (c .before .before .before .before .before .before .before .before .before) ∙ c .before .before .before .before .before .before .before .before .if1 .left)) (printed-append (c .before .before .before .before .before .before .put-bytes .ensures) (c .before .before .put-refusal .ensures))
 
 pub put-step-spec : {M : Type 1} → statement M
 put-step-spec =

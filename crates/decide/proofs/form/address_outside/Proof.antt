@@ -1,0 +1,16 @@
+-- `decide::form::address_outside` meets its contract. Assumes nothing.
+use borrow.Author.Needs.{needs}
+use Rattle.decide.proofs.form.address_outside.Statement.{statement}
+use Rattle.decide.proofs.form.address_outside.Tie as tie
+
+uses-address-requires : tie.Need-uses-address-requires
+uses-address-requires c κs = search needs
+
+returns : tie.Need-returns
+returns c = rw (← (c .before .before .before .uses-address .ensures), c .before .before .if1 .taken)
+
+returns-2 : tie.Need-returns-2
+returns-2 c = rw (← (c .before .uses-address .ensures), c .if1 .left)
+
+pub address-outside-spec : {M : Type 1} → statement M
+address-outside-spec = tie.close (tie.spec uses-address-requires returns returns-2)

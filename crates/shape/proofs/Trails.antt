@@ -1,0 +1,44 @@
+-- Many steps of a store are a run over a list: its trace record by record, and actions that are alike leave one store and one trace. Assumes nothing.
+use mathlib.Core.Path.{_≡_, refl, sym, ap, _∙_}
+use Prim.Native.Nat.{ℕ, _<_}
+use lib.ListN.{length, getD}
+use Rattle.figure.specs.declared.Record.{Record}
+use Rattle.figure.proofs.Machines.{runs, tape, below, below-alike, built-long, built-at, by-number}
+use Rattle.shape.specs.Step.{stepped}
+use Rattle.shape.specs.Trace.{traced}
+use Rattle.shape.specs.Turns.{storeAfter, traceAfter}
+use Rattle.shape.specs.declared.Store.{Store}
+
+-- the store as a machine
+abbrev pub next-store : Store → Record → Store
+next-store s x = stepped s x .store
+
+abbrev pub next-record : Store → Record → Record
+next-record s x = traced (stepped s x)
+
+module _ (s : Store) (x : ℕ → Record) (n : ℕ) where
+  trail : (storeAfter s x n ≡ runs next-store s (below x n)) × (traceAfter s x n ≡ tape next-store next-record s (below x n))
+  unfolding storeAfter traceAfter
+  trail = by-number next-store next-record x (storeAfter s x) (traceAfter s x) (λ k. refl) refl (λ k. refl) n
+
+  pub store-trail : storeAfter s x n ≡ runs next-store s (below x n)
+  store-trail = trail .0
+
+  pub trace-trail : traceAfter s x n ≡ tape next-store next-record s (below x n)
+  trace-trail = trail .1
+
+  -- every action has its record
+  pub length-trace : length (traceAfter s x n) ≡ n
+  unfolding traceAfter
+  length-trace = built-long (λ k. next-record (storeAfter s x k) (x k)) (traceAfter s x) refl (λ k. refl) n
+
+  pub trace-at : (k : ℕ) (r : Record) → k < n → getD (traceAfter s x n) k r ≡ next-record (storeAfter s x k) (x k)
+  unfolding traceAfter
+  trace-at = built-at (λ k. next-record (storeAfter s x k) (x k)) (traceAfter s x) refl (λ k. refl) n
+
+module _ (s : Store) (x y : ℕ → Record) (n : ℕ) (same : (k : ℕ) → k < n → x k ≡ y k) where
+  pub store-alike : storeAfter s x n ≡ storeAfter s y n
+  store-alike = store-trail s x n ∙ (ap (runs next-store s) (below-alike x y n same) ∙ sym (store-trail s y n))
+
+  pub trace-alike : traceAfter s x n ≡ traceAfter s y n
+  trace-alike = trace-trail s x n ∙ (ap (tape next-store next-record s) (below-alike x y n same) ∙ sym (trace-trail s y n))
