@@ -11,7 +11,6 @@ use borrow.Author.Tests.{eqb-false, ltb-true, leb-true}
 use Rattle.figure.specs.Figure.{Step, MW, CU}
 use Rattle.figure.specs.Refusals.{_when_, pick, firstOf}
 use Rattle.figure.specs.declared.Record.{Record}
-use Rattle.figure.specs.declared.Sizes.{Sizes}
 use Rattle.figure.proofs.First.{none-first, first-front, first-append}
 use Rattle.figure.proofs.Laws.{and-left, and-right}
 use Rattle.figure.specs.Refusals.{mostEngines, mostAddresses, mostDepth}
@@ -19,9 +18,6 @@ use Rattle.shape.specs.Parts.{change, dropped, inOf, inJoined, noInEntry, noOut
 use Rattle.shape.specs.Sound.{soundOf}
 use Rattle.shape.specs.Step.{outAt, inAt, oldestOut, oldestIn, memoryAt, inEntry, someFull, formRefused, turnRefused, stepRefused, actionOf, effect, eventOf, answered, stepped}
 use Rattle.shape.specs.declared.Cache.{Cache}
-use Rattle.shape.specs.declared.InQueue.{InQueue}
-use Rattle.shape.specs.declared.OutQueue.{OutQueue}
-use Rattle.shape.specs.declared.Stepped.{Stepped}
 use Rattle.shape.specs.declared.Store.{Store}
 use Rattle.shape.proofs.Kept.{Sound, sound-parts, ranged, out-sound, in-sound, oldest-sound, oldest-in-sound}
 use Rattle.shape.proofs.Shaped.{room-each}

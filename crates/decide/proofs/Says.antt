@@ -1,5 +1,5 @@
 -- Laws of an answer after a refusal and after none. Assumes nothing.
-use mathlib.Core.Path.{_≡_, refl, sym, ap, _∙_}
+use mathlib.Core.Path.{_≡_, refl, sym, _∙_}
 use mathlib.Core.Bool.{Bool, true, false, not}
 use mathlib.Core.List.{List, _∷_, _++_}
 use Prim.Native.Nat.{ℕ, zero, suc}
@@ -12,7 +12,7 @@ use Rattle.figure.proofs.First.{first-front, first-append}
 use Rattle.shape.specs.Step.{formRefused, actionOf}
 use Rattle.shape.specs.Trace.{tracedAs, refusalRecord}
 use Rattle.shape.proofs.Taken.{form-numbered}
-use Rattle.decide.specs.Move.{refusing, decided, lookRefused, allowedMove, turned, moveOf}
+use Rattle.decide.specs.Move.{refusing, decided, lookRefused, turned, moveOf}
 use Rattle.decide.specs.declared.Look.{Look}
 use Rattle.decide.specs.declared.Move.{Move}
 

@@ -11,7 +11,7 @@ use Rattle.figure.specs.Refusals.{firstOf, unless}
 use Rattle.figure.specs.declared.Record.{Record}
 use Rattle.lists.specs.Bytes.{rows, laid}
 use Rattle.lists.specs.Codec.{thingsAt}
-use Rattle.lists.specs.Read.{readOf, memoryOf, memoryTable}
+use Rattle.lists.specs.Read.{readOf, memoryTable}
 use Rattle.lists.specs.Record.{recordWidth, recordBytes, recordCodec}
 use Rattle.lists.specs.declared.reader.Layout.{Layout}
 use Rattle.lists.proofs.Actions.{getD-actions}
@@ -26,7 +26,7 @@ use Rattle.shape.specs.Turns.{actionAt, bytesOf, turnsOf, FreshTurned}
 use Rattle.shape.proofs.Trails.{trace-alike, length-trace}
 use Rattle.demands.proofs.Runs.{fresh-taken}
 use Rattle.history.specs.Pieces.{recordsBelow, Admitted}
-use Rattle.demands.specs.Run.{runSizes, runFresh, runAction, runTrace}
+use Rattle.demands.specs.Run.{runFresh, runAction, runTrace}
 
 -- the records that stand in some bytes, one after another
 pub records-each : (bytes : List ℕ) (n : ℕ) → recordsBelow (actionAt bytes) n ≡ thingsAt recordCodec bytes 0 n

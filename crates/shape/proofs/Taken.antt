@@ -1,15 +1,13 @@
 -- A step's answer, taken apart: a refusal, or a step that one of the six rules allows, with what the rule asks for. Assumes nothing.
 use mathlib.Core.Path.{_≡_, refl}
 use mathlib.Core.Bool.{Bool, true, false, not, _&&_, true≢false}
-use mathlib.Core.List.{List, [], _∷_, _++_}
 use Prim.Native.Nat.{ℕ, zero, suc, _≤_, _<_}
 use native.Mathlib.Omega.{arith}
 use lib.Dec.{eqb, ltb}
-use lib.ListN.{take}
 use borrow.Author.Tests.{ltb-false, leb-false, eqb-true, eqb-false, not-false}
 use Rattle.figure.specs.Figure.{Step, R, W, MW, MR, CU, CI}
 use Rattle.figure.specs.Record.{noRecord}
-use Rattle.figure.specs.Refusals.{Refusal, firstOf, outside}
+use Rattle.figure.specs.Refusals.{firstOf, outside}
 use Rattle.figure.specs.declared.Record.{Record}
 use Rattle.figure.specs.declared.Sizes.{Sizes}
 use Rattle.figure.proofs.First.{NoneApplies, Numbered, none-first, none-split}
@@ -18,7 +16,6 @@ use Rattle.shape.proofs.Places.{or-right}
 use Rattle.shape.specs.Parts.{ownWaits, inCache}
 use Rattle.shape.specs.Sound.{soundOf}
 use Rattle.shape.specs.Step.{outAt, inAt, cacheAt, someFull, formRefused, turnRefused, stepRefused, actionOf, effect, eventOf, answered, stepped}
-use Rattle.shape.specs.declared.InQueue.{InQueue}
 use Rattle.shape.specs.declared.Stepped.{Stepped}
 use Rattle.shape.specs.declared.Store.{Store}
 

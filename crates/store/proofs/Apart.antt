@@ -6,15 +6,13 @@ use Prim.Native.Nat.{ℕ, zero, suc, pred, _+_, _-_, _*_, _%_, _≤_, _<_}
 use native.Mathlib.Numerals.{add-one}
 use native.Mathlib.Omega.{arith}
 use lib.Dec.{eqb, leb, ltb}
-use lib.ListN.{length, take, set, getD, replicate, length-append, length-take, length-set}
+use lib.ListN.{length, take, set, getD, length-take, length-set}
 use lib.Seq.{getD-set-same, getD-set-other, length-take-le}
 use borrow.Author.Tests.{eqb-true, eqb-false, eq-eqb, ne-eqb, ltb-true, ltb-false, leb-true, leb-false}
-use Rattle.figure.specs.Refusals.{pick, firstOf, mostEngines, mostAddresses, mostDepth}
+use Rattle.figure.specs.Refusals.{pick, mostEngines, mostAddresses, mostDepth}
 use Rattle.figure.specs.declared.Record.{Record}
-use Rattle.figure.specs.declared.Sizes.{Sizes}
-use Rattle.shape.specs.Parts.{any, change, full, outOf, inOf, outJoined, outLeft, inJoined, inLeft, isFrom, ownWaits, noOutEntry, noInEntry, noOut, noIn, noCache}
-use Rattle.shape.specs.Sound.{soundOf}
-use Rattle.shape.specs.Step.{outAt, inAt, outEntry, someFull}
+use Rattle.shape.specs.Parts.{any, change, full, outOf, inOf, outJoined, outLeft, inJoined, inLeft, isFrom, noOutEntry, noInEntry, noOut, noIn, noCache}
+use Rattle.shape.specs.Step.{outEntry, someFull}
 use Rattle.shape.specs.declared.Cache.{Cache}
 use Rattle.shape.specs.declared.InEntry.{InEntry}
 use Rattle.shape.specs.declared.InQueue.{InQueue}
@@ -25,8 +23,8 @@ use Rattle.shape.proofs.Accepts.{out-fits, in-fits}
 use Rattle.shape.proofs.Kept.{Sound, ranged}
 use Rattle.shape.proofs.Places.{length-change, getD-change-same, getD-change-other, getD-firsts-below, getD-firsts-above, out-with, in-with}
 use Rattle.shape.proofs.Shaped.{Shaped}
-use Rattle.decide.specs.Effect.{between, movedOut, leftIn, movedIns, movedCache, movedMemory, moved, Seen}
-use Rattle.decide.specs.Move.{toMemory, storedAs, heldAs, cachedAs}
+use Rattle.decide.specs.Effect.{between, movedOut, leftIn, movedIns, Seen}
+use Rattle.decide.specs.Move.{toMemory}
 use Rattle.decide.specs.declared.Look.{Look}
 use Rattle.decide.specs.declared.Move.{Move}
 use Rattle.decide.proofs.Effects.{Carries}

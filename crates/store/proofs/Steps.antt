@@ -13,9 +13,9 @@ use Rattle.figure.specs.Refusals.{firstOf, mostEngines, mostAddresses}
 use Rattle.figure.specs.declared.Engine.{Engine}
 use Rattle.figure.specs.declared.Record.{Record}
 use Rattle.figure.specs.declared.Sizes.{Sizes}
-use Rattle.shape.specs.Parts.{any, change, firsts, full, inJoined, ownWaits, noOutEntry, noInEntry, noOut, noIn, noCache}
+use Rattle.shape.specs.Parts.{any, full, inJoined, ownWaits, noOutEntry, noInEntry, noOut, noIn, noCache}
 use Rattle.shape.specs.Sound.{soundOf}
-use Rattle.shape.specs.Step.{formRefused, actionOf, someFull}
+use Rattle.shape.specs.Step.{formRefused, someFull}
 use Rattle.shape.specs.declared.Cache.{Cache}
 use Rattle.shape.specs.declared.InQueue.{InQueue}
 use Rattle.shape.specs.declared.OutQueue.{OutQueue}

@@ -15,16 +15,14 @@ use Rattle.lists.specs.Record.{recordBytes}
 use Rattle.lists.proofs.Put.{laid-put, laid-none, length-laid}
 use Rattle.lists.proofs.Rows.{rows-append, length-rows}
 use Rattle.shape.specs.Fresh.{freshOf, freshRefused, emptyCache, emptyOut, emptyIn}
-use Rattle.shape.specs.Parts.{any, full, over, change, outOf, inOf, inJoined, noOutEntry, noInEntry, noOut, noIn, noCache}
+use Rattle.shape.specs.Parts.{any, full, over, change, outOf, inOf, noOutEntry, noInEntry, noOut, noIn, noCache}
 use Rattle.shape.specs.Sound.{soundOf}
 use Rattle.shape.specs.Step.{outEntry, formRefused, stepped}
 use Rattle.shape.specs.Trace.{traced, tracedAs}
 use Rattle.shape.specs.Turns.{actionAt, storeAfter, traceAfter, bytesOf, turnsOf, FreshTurned}
 use Rattle.shape.specs.declared.Cache.{Cache}
 use Rattle.shape.specs.declared.InEntry.{InEntry}
-use Rattle.shape.specs.declared.InQueue.{InQueue}
 use Rattle.shape.specs.declared.OutEntry.{OutEntry}
-use Rattle.shape.specs.declared.OutQueue.{OutQueue}
 use Rattle.shape.specs.declared.Stepped.{Stepped}
 use Rattle.shape.specs.declared.Store.{Store}
 use Rattle.shape.proofs.Kept.{sound-parts, keeps-sound, keeps-sizes}
@@ -38,8 +36,8 @@ use Rattle.decide.specs.declared.Move.{Move}
 use Rattle.decide.proofs.Effects.{Carries, carries, decides}
 use Rattle.store.specs.Pieces.{PlaceIn, WordIn, ownAfter}
 use Rattle.store.specs.declared.turns.Ring.{Ring}
-use Rattle.store.proofs.Apart.{countFrom, Cells, cells-more, Apart, apart-seen, waiting-more, owned-more, Coming}
-use Rattle.store.proofs.Rings.{noRing, ring-none, Held}
+use Rattle.store.proofs.Apart.{countFrom, cells-more, Apart, apart-seen, waiting-more, owned-more, Coming}
+use Rattle.store.proofs.Rings.{noRing, ring-none}
 use Rattle.store.proofs.Steps.{stands}
 
 -- ---- the bytes of a trace

@@ -1,16 +1,13 @@
 -- `store::turns::take_turns` meets its contract. The invariants: Turning, the trace after i turns, with Apart, the arrays hold the store after them; Coming, a turn's entry has joined the in queues below j. Assumes nothing.
-use mathlib.Core.Path.{_≡_, refl, sym, ap, _∙_}
-use mathlib.Core.Bool.{Bool, true, false}
+use mathlib.Core.Path.{_≡_, refl, ap, _∙_}
 use native.Mathlib.Omega.{arith}
-use native.Mathlib.Numerals.{add-one}
-use Prim.Native.Nat.{ℕ, _+_, _-_, _*_, _≤_, _<_}
+use Prim.Native.Nat.{_+_, _-_, _*_, _≤_, _<_}
 use lib.ListN.{length, length-set}
 use mir.Syntax.{w64}
 use mir.Val.{Fits}
 use denote.Ref.{now}
-use Rattle.figure.specs.declared.Record.{Record}
 use Rattle.shape.specs.Fresh.{freshOf}
-use Rattle.shape.specs.Parts.{change, noIn}
+use Rattle.shape.specs.Parts.{change}
 use Rattle.shape.specs.Step.{stepped}
 use Rattle.shape.specs.Turns.{actionAt, storeAfter}
 use Rattle.shape.specs.declared.Store.{Store}
