@@ -65,7 +65,7 @@ queues-same k l = change-none _ (λ q. refl) k l
 module _ (s : Store) (l : Look) where
   look-first : {x : Record} {t : Step} → Asks (s .sizes) x t → {p : ℕ} → Seen s x p l → firstOf (lookRefused (s .sizes) l t) ≡ firstOf (turnRefused s t)
   unfolding turnRefused
-  look-first (asks-R k a) e = rw (e .outs, e .own, e .held)
+  look-first (asks-R k a) e = rw (e .outs, e .own refl, e .held)
   look-first (asks-W k a) e = rw (e .outs)
   look-first (asks-MW k) e = rw (e .outs, e .blocked refl)
   look-first (asks-MR k a) e = rw (e .ins)

@@ -56,14 +56,14 @@ moved m k s =
 abbrev pub done : Move → ℕ → Store → Stepped
 done m k s = record { number = m .said .number; store = moved m k s; event = m .said .event }
 
--- what the well-formed action x finds in the store was looked at, at place k: an oldest entry only where there is one, full queues only for MW
+-- what the well-formed action x finds in the store was looked at, at place k: an oldest entry only where there is one, an own entry only for R, full queues only for MW
 pub record Seen (s : Store) (x : Record) (k : ℕ) (l : Look) : Type 0 where
   pub place : k ≡ pred (x .engine .0)
   pub outs : l .outs ≡ outAt s (x .engine .0) .len
   pub ins : l .ins ≡ inAt s (x .engine .0) .len
   pub first-out : 0 < l .outs → l .«first_out» ≡ oldestOut s (x .engine .0)
   pub first-in : 0 < l .ins → l .«first_in» ≡ oldestIn s (x .engine .0)
-  pub own : l .own ≡ ownWaits (x .engine) (inAt s (x .engine .0))
+  pub own : x .kind ≡ 1 → l .own ≡ ownWaits (x .engine) (inAt s (x .engine .0))
   pub blocked : x .kind ≡ 3 → l .blocked ≡ someFull s
   pub held : l .held ≡ inCache (cacheAt s (x .engine .0)) (x .address)
   pub cached : l .cached ≡ cachedValue (cacheAt s (x .engine .0)) (x .address)

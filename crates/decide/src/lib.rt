@@ -1,11 +1,10 @@
 // What a turn does is decided here, over small values: which refusal, which event, and which parts of the store change. No other code knows the kinds.
 ghost use mathlib.Core.Path.{_≡_};
-ghost use mathlib.Core.Bool.{Bool, true, false};
+ghost use mathlib.Core.Bool.{true, false};
 ghost use Prim.Native.Nat.{pred, _<_};
 ghost use lib.Dec.{eqb};
 ghost use Rattle.figure.specs.Figure.{R, W, MW, MR, CU, CI};
-ghost use Rattle.figure.specs.Refusals.{pick};
-ghost use Rattle.shape.specs.Step.{filled, inEntry};
+ghost use Rattle.shape.specs.Step.{filled};
 ghost use Rattle.shape.specs.Trace.{tracedAs};
 ghost use Rattle.decide.specs.Move.{refusing, accepting, turned, moveOf, storedAs, heldAs, cachedAs};
 
@@ -199,7 +198,13 @@ fn forget(z: Sizes, x: Record, l: Look) -> Move
     accept(x, entry_of(Engine(0), x.address, 0), DROPPED)
 }
 
-// Only MW asks whether some in queue is full: for another kind nobody need look.
+// Only R asks whether an entry of its own waits, and only MW whether some in queue is full: for another kind nobody need look.
+pub fn asks_own(kind: u8) -> bool
+    ensures { λ r. ⌜ r ≡ eqb kind 1 ⌝ }
+{
+    kind == 1
+}
+
 pub fn asks_all(kind: u8) -> bool
     ensures { λ r. ⌜ r ≡ eqb kind 3 ⌝ }
 {

@@ -20,17 +20,17 @@ testAt k [] = true
 testAt zero (r ∷ rs) = r .applies
 testAt (suc k) (r ∷ rs) = testAt k rs
 
-abbrev pub numberAt : ℕ → List Refusal → ℕ
-numberAt k [] = 0
-numberAt zero (r ∷ rs) = r .number
-numberAt (suc k) (r ∷ rs) = numberAt k rs
+abbrev pub refusalAt : ℕ → List Refusal → ℕ
+refusalAt k [] = 0
+refusalAt zero (r ∷ rs) = r .number
+refusalAt (suc k) (r ∷ rs) = refusalAt k rs
 
 pub passed-more : (k : ℕ) (rs : List Refusal) → Passed k rs → testAt k rs ≡ false → Passed (suc k) rs
 passed-more k [] h e = tt
 passed-more zero (r ∷ rs) h e = (e, tt)
 passed-more (suc k) (r ∷ rs) h e = (h .0, passed-more k rs (h .1) e)
 
-pub first-at : (k : ℕ) (rs : List Refusal) → Passed k rs → testAt k rs ≡ true → firstOf rs ≡ numberAt k rs
+pub first-at : (k : ℕ) (rs : List Refusal) → Passed k rs → testAt k rs ≡ true → firstOf rs ≡ refusalAt k rs
 first-at k [] h e = refl
 first-at zero (r ∷ rs) h e = ap (λ (b : Bool). pick b (r .number) (firstOf rs)) e
 first-at (suc k) (r ∷ rs) h e = ap (λ (b : Bool). pick b (r .number) (firstOf rs)) (h .0) ∙ first-at k rs (h .1) e

@@ -7,7 +7,7 @@ use lib.Dec.{eqb}
 use lib.ListN.{length}
 use borrow.Author.Tests.{eqb-true, eqb-false}
 use Rattle.figure.specs.Figure.{upd}
-use Rattle.figure.specs.Account.{Item, reading, writing, put, flat}
+use Rattle.figure.specs.Account.{Item, reading, writing, join-slot, flat}
 use Rattle.figure.specs.Demand.{Serial}
 
 pub and-left : (a b : Bool) → a && b ≡ true → a ≡ true
@@ -46,7 +46,7 @@ pub flat-append : (ss ts : List (List Item)) → flat (ss ++ ts) ≡ flat ss ++ 
 flat-append [] ts = refl
 flat-append (s ∷ ss) ts = rw (flat-append ss ts) (sym (append-assoc s (flat ss) (flat ts)))
 
-pub length-put : (x : Item) (k : ℕ) (ss : List (List Item)) → length (put k x ss) ≡ length ss
+pub length-put : (x : Item) (k : ℕ) (ss : List (List Item)) → length (join-slot k x ss) ≡ length ss
 length-put x k [] = refl
 length-put x zero (s ∷ ss) = refl
 length-put x (suc k) (s ∷ ss) = ap suc (length-put x k ss)

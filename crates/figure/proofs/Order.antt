@@ -8,7 +8,7 @@ use lib.Dec.{eqb, leb}
 use borrow.Author.Tests.{eqb-true, eqb-false, leb-true, leb-false, not-true}
 use Rattle.figure.specs.declared.Sizes.{Sizes}
 use Rattle.figure.specs.Figure.{upd, Out, wr, In, up, Engine, State, Step, R, W, MW, MR, CU, CI, fresh, empty, present, none-of, engine?, named, allowed, accepted, next, publish, update, after}
-use Rattle.figure.specs.Account.{read, wrote, head-out, head-in, event, trace, Item, reading, writing, logged, log, Book, blank, put, note, flat, account, unpublished}
+use Rattle.figure.specs.Account.{read, wrote, head-out, head-in, event, trace, Item, reading, writing, logged, log, Book, blank, join-slot, note, flat, account, unpublished}
 use Rattle.figure.specs.Demand.{who, own, bookOf, logOf}
 use Rattle.figure.proofs.Laws.{and-left, and-right, upd-each, upd-one, each, flat-append}
 use Rattle.figure.proofs.Run.{run-keeps}
@@ -44,18 +44,18 @@ clear-none i (s ∷ ss) (up (suc o) a d ∷ q) h e =
 -- ---- an item joins a slot
 
 module _ (r : Item) where
-  own-put-other : (j k : ℕ) (ss : List (List Item)) → ¬ (who r ≡ j) → own j (flat (put k r ss)) ≡ own j (flat ss)
+  own-put-other : (j k : ℕ) (ss : List (List Item)) → ¬ (who r ≡ j) → own j (flat (join-slot k r ss)) ≡ own j (flat ss)
   own-put-other j k [] h = refl
   own-put-other j zero (s ∷ ss) h = simp (own-append, own-other r j [] h, append-nil)
   own-put-other j (suc k) (s ∷ ss) h = simp (own-append, own-put-other j k ss h)
 
   own-put-mine : (i T : ℕ) (ss : List (List Item)) (q : List In) → who r ≡ i → Past T i ss q → none-of i q ≡ true
-      → own i (flat (put T r ss)) ≡ own i (flat ss) ++ (r ∷ [])
+      → own i (flat (join-slot T r ss)) ≡ own i (flat ss) ++ (r ∷ [])
   own-put-mine i T [] q w h e = absurd h
   own-put-mine i zero (s ∷ ss) q w h e = simp (own-append, own-mine r i [] w, clear-none i ss q h e, append-nil)
   own-put-mine i (suc T) (s ∷ ss) q w h e = simp (own-append, own-put-mine i T ss q w h e, append-assoc)
 
-  clear-put : (j k : ℕ) (ss : List (List Item)) (q : List In) → ¬ (who r ≡ j) → Clear j ss q → Clear j (put k r ss) q
+  clear-put : (j k : ℕ) (ss : List (List Item)) (q : List In) → ¬ (who r ≡ j) → Clear j ss q → Clear j (join-slot k r ss) q
   clear-put j k [] q n h = h
   clear-put j zero (s ∷ ss) [] n h = h
   clear-put j (suc k) (s ∷ ss) [] n h = h
@@ -64,14 +64,14 @@ module _ (r : Item) where
   clear-put j zero (s ∷ ss) (up (suc o) a d ∷ q) n h = ((λ x. rw (own-append, h .0 x) (own-other r j [] n)), h .1)
   clear-put j (suc k) (s ∷ ss) (up (suc o) a d ∷ q) n h = (h .0, clear-put j k ss q n (h .1))
 
-  past-put-other : (T j k : ℕ) (ss : List (List Item)) (q : List In) → ¬ (who r ≡ j) → Past T j ss q → Past T j (put k r ss) q
+  past-put-other : (T j k : ℕ) (ss : List (List Item)) (q : List In) → ¬ (who r ≡ j) → Past T j ss q → Past T j (join-slot k r ss) q
   past-put-other T j k [] q n h = h
   past-put-other zero j zero (s ∷ ss) q n h = h
   past-put-other (suc T) j zero (s ∷ ss) q n h = h
   past-put-other zero j (suc k) (s ∷ ss) q n h = clear-put j k ss q n h
   past-put-other (suc T) j (suc k) (s ∷ ss) q n h = past-put-other T j k ss q n h
 
-  past-put-mine : (T i : ℕ) (ss : List (List Item)) (q : List In) → Past T i ss q → Past T i (put T r ss) q
+  past-put-mine : (T i : ℕ) (ss : List (List Item)) (q : List In) → Past T i ss q → Past T i (join-slot T r ss) q
   past-put-mine T i [] q h = h
   past-put-mine zero i (s ∷ ss) q h = h
   past-put-mine (suc T) i (s ∷ ss) q h = past-put-mine T i ss q h
@@ -133,10 +133,10 @@ module _ (s : State) (b : Book) (l : List Item) (h : Order s b l) where
   on-read t i a d p e =
       let r = reading t i a d in
       record {
-        past = each (λ j. Past (b .ledger .taken j) j (put (b .ledger .taken i) r (b .slots)) (s .engine j .ins)) i
+        past = each (λ j. Past (b .ledger .taken j) j (join-slot (b .ledger .taken i) r (b .slots)) (s .engine j .ins)) i
             (past-put-mine r (b .ledger .taken i) i (b .slots) _ (h .past i))
             (λ j n. past-put-other r (b .ledger .taken j) j (b .ledger .taken i) (b .slots) _ (λ q. n (sym q)) (h .past j));
-        same = each (λ j. own j (flat (put (b .ledger .taken i) r (b .slots))) ++ b .pending j ≡ own j (l ++ (r ∷ []))) i
+        same = each (λ j. own j (flat (join-slot (b .ledger .taken i) r (b .slots))) ++ b .pending j ≡ own j (l ++ (r ∷ []))) i
             (simp (snoc-mine r i l refl, own-put-mine r i (b .ledger .taken i) (b .slots) (s .engine i .ins) refl (h .past i) e, ← (h .same i), p, append-nil))
             (λ j n. rw (own-put-other r j (b .ledger .taken i) (b .slots) (λ q. n (sym q)), snoc-other r j l (λ q. n (sym q))) (h .same j));
       }

@@ -6,7 +6,7 @@ use mathlib.Core.Option.{Option, none, some}
 use mathlib.Core.List.{List, [], _∷_, _++_}
 use Rattle.figure.specs.declared.Sizes.{Sizes}
 use Rattle.figure.specs.Figure.{upd, Out, wr, In, up, Engine, State, Step, R, W, MW, MR, CU, CI, fresh, present, allowed, accepted, named, next, publish, update, after}
-use Rattle.figure.specs.Account.{read, wrote, held, head-out, head-in, event, trace, Item, reading, writing, Book, blank, put, note, book, flat, account, unpublished}
+use Rattle.figure.specs.Account.{read, wrote, held, head-out, head-in, event, trace, Item, reading, writing, Book, blank, join-slot, note, book, flat, account, unpublished}
 use Rattle.figure.specs.Demand.{Serial, bookOf}
 use Rattle.figure.proofs.Laws.{and-left, and-right, upd-each, upd-one, flat-append, leave, leave-append, serial-join, serial-split}
 use Rattle.figure.proofs.Run.{run-keeps}
@@ -44,12 +44,12 @@ module _ (t i a v : ℕ) where
   leave-read : (m : ℕ → ℕ) (s : List Item) → leave m (s ++ (reading t i a v ∷ [])) ≡ leave m s
   leave-read m s = leave-append m s (reading t i a v ∷ [])
 
-  leave-put : (k : ℕ) (m : ℕ → ℕ) (ss : List (List Item)) → leave m (flat (put k (reading t i a v) ss)) ≡ leave m (flat ss)
+  leave-put : (k : ℕ) (m : ℕ → ℕ) (ss : List (List Item)) → leave m (flat (join-slot k (reading t i a v) ss)) ≡ leave m (flat ss)
   leave-put k m [] = refl
   leave-put zero m (s ∷ ss) = simp leave-append
   leave-put (suc k) m (s ∷ ss) = simp (leave-append, leave-put k (leave m s) ss)
 
-  behind-put : (k : ℕ) (m : ℕ → ℕ) (ss : List (List Item)) (q : List In) → Behind m ss q → Behind m (put k (reading t i a v) ss) q
+  behind-put : (k : ℕ) (m : ℕ → ℕ) (ss : List (List Item)) (q : List In) → Behind m ss q → Behind m (join-slot k (reading t i a v) ss) q
   behind-put k m [] q h = h
   behind-put zero m (s ∷ ss) [] h = h
   behind-put (suc k) m (s ∷ ss) [] h = h
@@ -58,7 +58,7 @@ module _ (t i a v : ℕ) where
   behind-put zero m (s ∷ ss) (up (suc o) b d ∷ q) h = rw leave-read h
   behind-put (suc k) m (s ∷ ss) (up (suc o) b d ∷ q) h = (h .0, behind-put k (leave m s) ss q (h .1))
 
-  view-put : (T k : ℕ) (m : ℕ → ℕ) (ss : List (List Item)) (c : ℕ → Option ℕ) (q : List In) → View T m ss c q → View T m (put k (reading t i a v) ss) c q
+  view-put : (T k : ℕ) (m : ℕ → ℕ) (ss : List (List Item)) (c : ℕ → Option ℕ) (q : List In) → View T m ss c q → View T m (join-slot k (reading t i a v) ss) c q
   view-put T k m [] c q h = h
   view-put zero zero m (s ∷ ss) c q h = rw leave-read h
   view-put (suc T) zero m (s ∷ ss) c q h = subst (λ (x : ℕ → ℕ). View T x ss c q) (sym (leave-read m s)) h
@@ -66,14 +66,14 @@ module _ (t i a v : ℕ) where
   view-put (suc T) (suc k) m (s ∷ ss) c q h = view-put T k (leave m s) ss c q h
 
   serial-put : (T : ℕ) (m : ℕ → ℕ) (ss : List (List Item)) (c : ℕ → Option ℕ) (q : List In)
-      → View T m ss c q → c a ≡ some v → Serial m (flat ss) → Serial m (flat (put T (reading t i a v) ss))
+      → View T m ss c q → c a ≡ some v → Serial m (flat ss) → Serial m (flat (join-slot T (reading t i a v) ss))
   serial-put T m [] c q h e p = p
   serial-put zero m (s ∷ ss) c q h e p =
       let r = serial-split m s (flat ss) p in
       serial-join m (s ++ (reading t i a v ∷ [])) (flat ss) (serial-join m s (reading t i a v ∷ []) (r .0) (h .0 a v e, tt)) (rw leave-read (r .1))
   serial-put (suc T) m (s ∷ ss) c q h e p =
       let r = serial-split m s (flat ss) p in
-      serial-join m s (flat (put T (reading t i a v) ss)) (r .0) (serial-put T (leave m s) ss c q h e (r .1))
+      serial-join m s (flat (join-slot T (reading t i a v) ss)) (r .0) (serial-put T (leave m s) ss c q h e (r .1))
 
 -- ---- a write opens a slot, and joins every in queue
 

@@ -10,7 +10,7 @@ use lib.ListN.{take, drop, take-append-drop}
 use borrow.Author.Tests.{leb-true, leb-false}
 use Rattle.figure.specs.declared.Sizes.{Sizes}
 use Rattle.figure.specs.Figure.{Out, wr, In, up, State, Step, R, W, MW, MR, CU, CI, engine?, named, accepted}
-use Rattle.figure.specs.Account.{updated, head-out, head-in, event, trace, Item, reading, Book, put, open-slot, note, book, flat, account, unpublished, floor, lowest, settled}
+use Rattle.figure.specs.Account.{updated, head-out, head-in, event, trace, Item, reading, Book, join-slot, open-slot, note, book, flat, account, unpublished, floor, lowest, settled}
 use Rattle.figure.specs.Demand.{Begins}
 use Rattle.figure.proofs.Laws.{and-left, and-right, upd-one, flat-append}
 use Rattle.figure.proofs.Run.{run-keeps}
@@ -43,7 +43,7 @@ begins-snoc zero ss ts = begins-refl []
 begins-snoc (suc f) [] ts = begins-more-of [] _
 begins-snoc (suc f) (s ∷ ss) ts = begins-under s (begins-snoc f ss ts)
 
-begins-put : (f k : ℕ) (r : Item) (ss : List (List Item)) → f ≤ k → Begins (flat (take (suc f) ss)) (flat (take (suc f) (put k r ss)))
+begins-put : (f k : ℕ) (r : Item) (ss : List (List Item)) → f ≤ k → Begins (flat (take (suc f) ss)) (flat (take (suc f) (join-slot k r ss)))
 begins-put f k r [] h = begins-refl []
 begins-put zero zero r (s ∷ ss) h = record { rest = r ∷ []; whole = simp append-nil }
 begins-put zero (suc k) r (s ∷ ss) h = begins-refl _

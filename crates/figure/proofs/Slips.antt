@@ -13,7 +13,7 @@ use Rattle.figure.specs.Demand.{serial?, own, logOf, bookOf}
 use Rattle.figure.proofs.Machines.{runs, tape}
 use Rattle.figure.proofs.Run.{trace-tape}
 use Rattle.figure.proofs.Simulates.{alone}
-use Rattle.figure.proofs.Worked.{sizes1, zeros, list1, sizes4, threes, list4}
+use Rattle.figure.proofs.Worked.{sizes1, allZero, list1, sizes4, threes, list4}
 
 -- ---- a run by given rules
 
@@ -86,11 +86,11 @@ at-once = record {
   notes = note;
 }
 
-pub at-once-account : accountBy at-once sizes1 zeros list1
+pub at-once-account : accountBy at-once sizes1 allZero list1
     ≡ reading 6 2 0 0 ∷ writing 4 1 1 1 ∷ reading 11 2 1 1 ∷ reading 12 2 0 7 ∷ writing 5 1 0 7 ∷ reading 14 2 0 7 ∷ []
 at-once-account = refl
 
-pub at-once-breaks : serial? zeros (accountBy at-once sizes1 zeros list1) ≡ false
+pub at-once-breaks : serial? allZero (accountBy at-once sizes1 allZero list1) ≡ false
 at-once-breaks = refl
 
 -- ---- "Reading as soon as the out queue is empty, with the engine's own update still waiting": engine 1 writes 1, and then reads 0 before that write
@@ -106,16 +106,16 @@ too-early = record {
 abbrev pub list2 : List Step
 list2 = MR 1 0 ∷ CU 1 ∷ W 1 0 1 ∷ R 1 0 ∷ MW 1 ∷ R 1 0 ∷ []
 
-pub list2-account : account sizes1 (bookOf sizes1 zeros list2) ≡ writing 2 1 0 1 ∷ []
+pub list2-account : account sizes1 (bookOf sizes1 allZero list2) ≡ writing 2 1 0 1 ∷ []
 list2-account = refl
 
-pub too-early-account : own 1 (accountBy too-early sizes1 zeros list2) ≡ reading 5 1 0 0 ∷ writing 2 1 0 1 ∷ []
+pub too-early-account : own 1 (accountBy too-early sizes1 allZero list2) ≡ reading 5 1 0 0 ∷ writing 2 1 0 1 ∷ []
 too-early-account = refl
 
-pub too-early-log : own 1 (logBy too-early sizes1 zeros list2) ≡ writing 2 1 0 1 ∷ reading 5 1 0 0 ∷ []
+pub too-early-log : own 1 (logBy too-early sizes1 allZero list2) ≡ writing 2 1 0 1 ∷ reading 5 1 0 0 ∷ []
 too-early-log = refl
 
-pub too-early-breaks : ¬ (own 1 (accountBy too-early sizes1 zeros list2) ≡ own 1 (logBy too-early sizes1 zeros list2))
+pub too-early-breaks : ¬ (own 1 (accountBy too-early sizes1 allZero list2) ≡ own 1 (logBy too-early sizes1 allZero list2))
 too-early-breaks e =
     let k = sym too-early-account ∙ e ∙ too-early-log in
     let n : _≡_ {A = ℕ} 0 1 = cc (k) in
@@ -139,18 +139,18 @@ skipping = record { accepts = accepted; moves = λ s. atMW (λ i. skip-own s i (
 abbrev pub list5 : List Step
 list5 = W 1 0 5 ∷ MW 1 ∷ MR 1 0 ∷ CU 1 ∷ R 1 0 ∷ []
 
-pub list5-account : account sizes1 (bookOf sizes1 zeros list5) ≡ writing 0 1 0 5 ∷ reading 4 1 0 5 ∷ []
+pub list5-account : account sizes1 (bookOf sizes1 allZero list5) ≡ writing 0 1 0 5 ∷ reading 4 1 0 5 ∷ []
 list5-account = refl
 
-pub skipping-account : accountBy skipping sizes1 zeros list5 ≡ reading 4 1 0 5 ∷ writing 0 1 0 5 ∷ []
+pub skipping-account : accountBy skipping sizes1 allZero list5 ≡ reading 4 1 0 5 ∷ writing 0 1 0 5 ∷ []
 skipping-account = refl
 
-pub skipping-breaks : serial? zeros (accountBy skipping sizes1 zeros list5) ≡ false
+pub skipping-breaks : serial? allZero (accountBy skipping sizes1 allZero list5) ≡ false
 skipping-breaks = refl
 
 -- ---- "The order of issue given as the account. B1 then has 7 written before a read of 0."
 
-pub issue-order-breaks : serial? zeros (logOf sizes1 zeros list1) ≡ false
+pub issue-order-breaks : serial? allZero (logOf sizes1 allZero list1) ≡ false
 issue-order-breaks = refl
 
 -- ---- "Counting refreshes as taken writes": in B4 the read of 3 then falls behind the write of 4, and the read of 4 into no slot

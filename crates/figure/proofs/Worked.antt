@@ -12,31 +12,31 @@ use Rattle.figure.specs.Demand.{traceOf, bookOf, logOf}
 abbrev pub sizes1 : Sizes
 sizes1 = record { engines = 2; addresses = 2; depth = 2 }
 
-abbrev pub zeros : ℕ → ℕ
-zeros a = 0
+abbrev pub allZero : ℕ → ℕ
+allZero a = 0
 
 -- the tenth is 27, the last is 22
 abbrev pub list1 : List Step
 list1 =
     MR 2 0 ∷ MR 2 1 ∷ CU 2 ∷ CU 2 ∷ W 1 1 1 ∷ W 1 0 7 ∷ R 2 0 ∷ MW 1 ∷ MW 1 ∷ MR 2 0 ∷ CU 2 ∷ R 2 1 ∷ R 2 0 ∷ CU 2 ∷ R 2 0 ∷ R 1 0 ∷ []
 
-pub trace1 : traceOf sizes1 zeros list1
+pub trace1 : traceOf sizes1 allZero list1
     ≡ refreshed 2 0 0 ∷ refreshed 2 1 0 ∷ updated 2 0 0 0 ∷ updated 2 0 1 0 ∷ wrote 1 1 1 ∷ wrote 1 0 7 ∷ read 2 0 0 ∷ published 1 1 1 ∷ published 1 0 7
     ∷ refused ∷ updated 2 1 1 1 ∷ read 2 1 1 ∷ read 2 0 0 ∷ updated 2 1 0 7 ∷ read 2 0 7 ∷ refused ∷ []
 trace1 = refl
 
-pub log1 : logOf sizes1 zeros list1 ≡ writing 4 1 1 1 ∷ writing 5 1 0 7 ∷ reading 6 2 0 0 ∷ reading 11 2 1 1 ∷ reading 12 2 0 0 ∷ reading 14 2 0 7 ∷ []
+pub log1 : logOf sizes1 allZero list1 ≡ writing 4 1 1 1 ∷ writing 5 1 0 7 ∷ reading 6 2 0 0 ∷ reading 11 2 1 1 ∷ reading 12 2 0 0 ∷ reading 14 2 0 7 ∷ []
 log1 = refl
 
-pub slots1 : bookOf sizes1 zeros list1 .slots
+pub slots1 : bookOf sizes1 allZero list1 .slots
     ≡ (reading 6 2 0 0 ∷ []) ∷ (writing 4 1 1 1 ∷ reading 11 2 1 1 ∷ reading 12 2 0 0 ∷ []) ∷ (writing 5 1 0 7 ∷ reading 14 2 0 7 ∷ []) ∷ []
 slots1 = refl
 
-pub account1 : account sizes1 (bookOf sizes1 zeros list1)
+pub account1 : account sizes1 (bookOf sizes1 allZero list1)
     ≡ reading 6 2 0 0 ∷ writing 4 1 1 1 ∷ reading 11 2 1 1 ∷ reading 12 2 0 0 ∷ writing 5 1 0 7 ∷ reading 14 2 0 7 ∷ []
 account1 = refl
 
-pub settled1 : settled sizes1 (bookOf sizes1 zeros list1) ≡ reading 6 2 0 0 ∷ []
+pub settled1 : settled sizes1 (bookOf sizes1 allZero list1) ≡ reading 6 2 0 0 ∷ []
 settled1 = refl
 
 -- ---- B4: "2 engines, 1 address, depth 2, memory 3"

@@ -115,10 +115,10 @@ abbrev pub blank : Book
 blank = record { slots = [] ∷ []; ledger = blank-ledger; pending = λ i. [] }
 
 -- the item joins slot k
-abbrev pub put : ℕ → Item → List (List Item) → List (List Item)
-put k x [] = []
-put zero x (s ∷ ss) = (s ++ (x ∷ [])) ∷ ss
-put (suc k) x (s ∷ ss) = s ∷ put k x ss
+abbrev pub join-slot : ℕ → Item → List (List Item) → List (List Item)
+join-slot k x [] = []
+join-slot zero x (s ∷ ss) = (s ++ (x ∷ [])) ∷ ss
+join-slot (suc k) x (s ∷ ss) = s ∷ join-slot k x ss
 
 -- "Each accepted MW publishes the oldest write of its engine not yet published": it opens the next slot
 abbrev pub open-slot : Book → ℕ → List Item → Book
@@ -128,7 +128,7 @@ open-slot b i (x ∷ q) = record { slots = b .slots ++ ((x ∷ []) ∷ []); ledg
 -- action t, and what happened; "A read belongs to the slot whose number its engine had taken at that moment."
 abbrev pub note : ℕ → Event → Book → Book
 note t refused b = b
-note t (read i a d) b = record { slots = put (b .ledger .taken i) (reading t i a d) (b .slots); ledger = b .ledger; pending = b .pending }
+note t (read i a d) b = record { slots = join-slot (b .ledger .taken i) (reading t i a d) (b .slots); ledger = b .ledger; pending = b .pending }
 note t (wrote i a d) b = record { slots = b .slots; ledger = b .ledger; pending = upd (b .pending) i (b .pending i ++ (writing t i a d ∷ [])) }
 note t (published i a d) b = open-slot b i (b .pending i)
 note t (refreshed i a d) b = b

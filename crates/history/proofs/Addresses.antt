@@ -4,7 +4,7 @@ use mathlib.Core.List.{List, [], _∷_, _++_}
 use mathlib.Core.Path.{_≡_}
 use Prim.Native.Nat.{ℕ, zero, suc, _<_}
 use borrow.Author.Tests.{ltb-true}
-use Rattle.figure.specs.Account.{Item, reading, writing, Book, blank, put, open-slot, note, flat, unpublished, account, event, head-out, head-in}
+use Rattle.figure.specs.Account.{Item, reading, writing, Book, blank, join-slot, open-slot, note, flat, unpublished, account, event, head-out, head-in}
 use Rattle.figure.specs.Demand.{bookOf}
 use Rattle.figure.specs.Figure.{upd, Out, wr, In, up, State, Step, R, W, MW, MR, CU, CI, fresh, engine?, named, next}
 use Rattle.figure.specs.declared.Sizes.{Sizes}
@@ -16,14 +16,14 @@ below-split : (m : ℕ) (xs ys : List Item) → Below m (xs ++ ys) → Below m x
 below-split m [] ys h = (tt, h)
 below-split m (x ∷ xs) ys h = let k = below-split m xs ys (h .1) in ((h .0, k .0), k .1)
 
-below-put : (m k : ℕ) (x : Item) (ss : List (List Item)) → address x < m → Below m (flat ss) → Below m (flat (put k x ss))
+below-put : (m k : ℕ) (x : Item) (ss : List (List Item)) → address x < m → Below m (flat ss) → Below m (flat (join-slot k x ss))
 below-put m k x [] a h = h
 below-put m zero x (s ∷ ss) a h =
     let p = below-split m s (flat ss) h in
     below-append m (s ++ (x ∷ [])) (flat ss) (below-append m s (x ∷ []) (p .0) (a, tt)) (p .1)
 below-put m (suc k) x (s ∷ ss) a h =
     let p = below-split m s (flat ss) h in
-    below-append m s (flat (put k x ss)) (p .0) (below-put m k x ss a (p .1))
+    below-append m s (flat (join-slot k x ss)) (p .0) (below-put m k x ss a (p .1))
 
 -- of the slots, and of each engine's unpublished writes
 pub record Lies (m : ℕ) (b : Book) : Type 0 where

@@ -15,7 +15,7 @@ use Rattle.figure.specs.declared.ledger.Ledger.{Ledger}
 use Rattle.figure.specs.Refusals.{pick, mostEngines, mostActions}
 use Rattle.figure.specs.Figure.{engine?}
 use Rattle.figure.specs.Account as account
-use Rattle.figure.specs.Account.{Event, Item, reading, writing, take-one, Book, blank, put, note}
+use Rattle.figure.specs.Account.{Event, Item, reading, writing, take-one, Book, blank, join-slot, note}
 use Rattle.figure.specs.Event.{eventView}
 use Rattle.figure.specs.Ledger.{mostWrites, isEngine, isPublication, entered, Small, Mirrors}
 use Rattle.figure.proofs.Entries.{note-ledger, engine-is, holds-none, holds-more}
@@ -35,7 +35,7 @@ map-addIf f true l y = map-append f l (y ∷ [])
 map-addIf f false l y = refl
 
 module _ (y : Item) where
-  getD-put : (T : ℕ) (ss : List (List Item)) (k : ℕ) → T < length ss → getD (put T y ss) k [] ≡ addIf (eqb T k) (getD ss k []) y
+  getD-put : (T : ℕ) (ss : List (List Item)) (k : ℕ) → T < length ss → getD (join-slot T y ss) k [] ≡ addIf (eqb T k) (getD ss k []) y
   getD-put T [] k h = absurd (omega arith)
   getD-put zero (s ∷ ss) zero h = refl
   getD-put zero (s ∷ ss) (suc k) h = rw (eqb·zero-suc k)

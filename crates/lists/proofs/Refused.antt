@@ -8,7 +8,7 @@ use lib.ListN.{length, drop}
 use lib.Dec.{ltb, eqb}
 use Rattle.figure.specs.declared.Sizes.{Sizes}
 use Rattle.figure.specs.Refusals.{Refusal, _when_, pick, firstOf, sizesRefused, mostActions}
-use Rattle.figure.proofs.First.{Passed, testAt, numberAt, first-at, sizes-numbered, first-append, first-front}
+use Rattle.figure.proofs.First.{Passed, testAt, refusalAt, first-at, sizes-numbered, first-append, first-front}
 use Rattle.lists.specs.Record.{recordWidth}
 use Rattle.lists.specs.Read.{sizesAt, afterHeader, afterMemory, readRefused, refusedAs, layoutOf, readOf, listBytes}
 use Rattle.lists.specs.Write.{writeRefused}
@@ -35,7 +35,7 @@ lengthsRefused s =
 
 module _ (s : List ℕ) where
   -- a refusal before the sizes
-  pub read-at : (k : ℕ) → Passed k (readRefused s) → testAt k (readRefused s) ≡ true → layoutOf (numberAt k (readRefused s)) s ≡ readOf s
+  pub read-at : (k : ℕ) → Passed k (readRefused s) → testAt k (readRefused s) ≡ true → layoutOf (refusalAt k (readRefused s)) s ≡ readOf s
   unfolding readOf
   read-at k h e = ap (λ (n : ℕ). layoutOf n s) (sym (first-at k (readRefused s) h e))
 
@@ -49,7 +49,7 @@ module _ (s : List ℕ) where
 
     module _ (sized : firstOf (sizesRefused (sizesAt s)) ≡ 0) where
       -- a refusal after the sizes, or none
-      pub read-lengths : (k : ℕ) → Passed k (lengthsRefused s) → testAt k (lengthsRefused s) ≡ true → layoutOf (numberAt k (lengthsRefused s)) s ≡ readOf s
+      pub read-lengths : (k : ℕ) → Passed k (lengthsRefused s) → testAt k (lengthsRefused s) ≡ true → layoutOf (refusalAt k (lengthsRefused s)) s ≡ readOf s
       unfolding readOf readRefused
       read-lengths k h e =
           ap (λ (n : ℕ). layoutOf n s)
@@ -70,7 +70,7 @@ module _ (z : Sizes) (memory actions : List ℕ) (room : ℕ) where
   write-sizes n e h = e ∙ sym (first-front (sizesRefused z) (partsRefused z memory actions room) (λ k. h (e ∙ k)))
 
   module _ (sized : firstOf (sizesRefused z) ≡ 0) where
-    pub write-at : (k : ℕ) → Passed k (partsRefused z memory actions room) → testAt k (partsRefused z memory actions room) ≡ true → numberAt k (partsRefused z memory actions room) ≡ firstOf (writeRefused z memory actions room)
+    pub write-at : (k : ℕ) → Passed k (partsRefused z memory actions room) → testAt k (partsRefused z memory actions room) ≡ true → refusalAt k (partsRefused z memory actions room) ≡ firstOf (writeRefused z memory actions room)
     unfolding writeRefused
     write-at k h e =
         sym (first-append (sizesRefused z) (partsRefused z memory actions room) sized (sizes-numbered z) ∙ first-at k (partsRefused z memory actions room) h e)

@@ -9,7 +9,7 @@ use lib.Dec.{ltb}
 use borrow.Author.Tests.{ltb-false, eqb-true, not-false}
 use Rattle.figure.specs.declared.Sizes.{Sizes}
 use Rattle.figure.specs.Refusals.{Refusal, firstOf, outside, sizesRefused, mostEngines, mostAddresses, mostDepth, mostActions}
-use Rattle.figure.proofs.First.{Passed, testAt, numberAt, first-at, Numbered, NoneApplies, first-none, none-first, sizes-numbered, numbered-append, none-split}
+use Rattle.figure.proofs.First.{Passed, testAt, refusalAt, first-at, Numbered, NoneApplies, first-none, none-first, sizes-numbered, numbered-append, none-split}
 use Rattle.lists.specs.Bytes.{u32At}
 use Rattle.lists.specs.Record.{recordWidth}
 use Rattle.lists.specs.declared.reader.Layout.{Layout}
@@ -31,7 +31,7 @@ pub read-number : (s : List ℕ) → readOf s .number ≡ firstOf (readRefused s
 unfolding readOf
 read-number s = number-is (firstOf (readRefused s)) s
 
-pub read-first : (s : List ℕ) (k : ℕ) → Passed k (readRefused s) → testAt k (readRefused s) ≡ true → readOf s .number ≡ numberAt k (readRefused s)
+pub read-first : (s : List ℕ) (k : ℕ) → Passed k (readRefused s) → testAt k (readRefused s) ≡ true → readOf s .number ≡ refusalAt k (readRefused s)
 read-first s k h e = read-number s ∙ first-at k (readRefused s) h e
 
 pub taken-none : (s : List ℕ) → readOf s .number ≡ 0 → NoneApplies (readRefused s)

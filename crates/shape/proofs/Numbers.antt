@@ -9,7 +9,7 @@ use borrow.Author.Tests.{eqb-true, eqb-false}
 use Rattle.figure.specs.Refusals.{firstOf}
 use Rattle.figure.specs.declared.Record.{Record}
 use Rattle.figure.specs.declared.Sizes.{Sizes}
-use Rattle.figure.proofs.First.{NoneApplies, Passed, testAt, numberAt, none-first, first-none, first-at, first-append, first-front}
+use Rattle.figure.proofs.First.{NoneApplies, Passed, testAt, refusalAt, none-first, first-none, first-at, first-append, first-front}
 use Rattle.shape.proofs.Kept.{fresh-numbered, fresh-short, fresh-sound, zeros-unsound}
 use Rattle.shape.proofs.Shaped.{Shaped, fresh-shaped}
 use Rattle.shape.proofs.Taken.{form-numbered, step-numbered}
@@ -30,7 +30,7 @@ module _ (s : Store) (x : Record) where
   step-number = answered-number (firstOf (stepRefused s x)) s x
 
   -- "the first that applies, in the table's order": the refusal at place k applies, and none before it
-  pub step-first : (k : ℕ) → Passed k (stepRefused s x) → testAt k (stepRefused s x) ≡ true → stepped s x .number ≡ numberAt k (stepRefused s x)
+  pub step-first : (k : ℕ) → Passed k (stepRefused s x) → testAt k (stepRefused s x) ≡ true → stepped s x .number ≡ refusalAt k (stepRefused s x)
   step-first k p e = step-number ∙ first-at k (stepRefused s x) p e
 
   -- "0 if none does", and only then
@@ -67,7 +67,7 @@ module _ (z : Sizes) (table : List ℕ) where
   unfolding made
   made-number = made-cases (firstOf (freshRefused z table)) .0
 
-  pub made-first : (k : ℕ) → Passed k (freshRefused z table) → testAt k (freshRefused z table) ≡ true → made z table .number ≡ numberAt k (freshRefused z table)
+  pub made-first : (k : ℕ) → Passed k (freshRefused z table) → testAt k (freshRefused z table) ≡ true → made z table .number ≡ refusalAt k (freshRefused z table)
   made-first k p e = made-number ∙ first-at k (freshRefused z table) p e
 
   pub made-zero : NoneApplies (freshRefused z table) → made z table .number ≡ 0

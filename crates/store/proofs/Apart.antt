@@ -32,7 +32,8 @@ use Rattle.store.specs.Pieces.{ownAfter}
 use Rattle.store.specs.declared.turns.Ring.{Ring}
 use Rattle.store.proofs.Laws.{change-set}
 use Rattle.store.proofs.Rings.{noRing, InRing, ring-first, ring-left, ring-joined, ring-other, ring-moved, Held, held-set}
-use Rattle.store.proofs.Steps.{Stands, between-none, length-between, between-at, between-more}
+use Rattle.scan.proofs.Laws.{Stands}
+use Rattle.store.proofs.Steps.{between-none, length-between, between-at, between-more}
 
 -- ---- how many entries of an engine's own wait
 
@@ -189,7 +190,7 @@ module _ {s : Store} {memory cached own : List ℕ} {held : List Bool} {outs ins
         ins = ri .len ∙ li ∙ rw (pl);
         first-out = λ b. ring-first ro (omega (arith, ro .len)) ∙ rw (pl);
         first-in = λ b. ring-first ri (omega (arith, ri .len)) ∙ rw (pl);
-        own = rw (h .owned k k8, st .number) (sym (count-any (suc k) (inOf (getD (s .ins) k noIn))));
+        own = λ d. rw (h .owned k k8, st .number) (sym (count-any (suc k) (inOf (getD (s .ins) k noIn))));
         blocked = λ d. bl d ∙ some-full-is;
         held = rw (ec, h .present .cell k a k8 ab, pl, st .word);
         cached = rw (ec, h .values .cell k a k8 ab, pl, st .word);

@@ -1,15 +1,12 @@
 -- Laws on a queue in an array, at any type of element: what a loop over its places has made of it after i turns. Assumes nothing.
 use mathlib.Core.Path.{_≡_, refl, ap, sym, _∙_}
-use mathlib.Core.Bool.{Bool, true, false}
-use lib.Dec.{leb}
-use borrow.Author.Tests.{leb-true, leb-false}
 use mathlib.Core.List.{List, [], _∷_, _++_, append-assoc, map, tail}
-use Prim.Native.Nat.{ℕ, zero, suc, min, _+_, _-_, _≤_, _<_}
+use Prim.Native.Nat.{ℕ, zero, suc, _+_, _-_, _≤_, _<_}
 use native.Mathlib.Numerals.{add-one, sub-one}
 use native.Mathlib.Nat.{add-comm, not-suc-le-zero}
 use native.Mathlib.Omega.{arith}
 use lib.ListN.{length, take, drop, set, getD, length-append, length-take, length-drop, length-map}
-use lib.Seq.{take-all, take-length, set-split, length-take-le, drop-cons, take-suc, set-at, getD-drop, getD-append-add}
+use lib.Seq.{set-split, length-take-le, drop-cons, take-suc, set-at, getD-drop, getD-append-add}
 use Rattle.shape.specs.Parts.{over, change, firsts}
 
 module _ {A : Type 0} where
@@ -85,14 +82,6 @@ module _ {A : Type 0} where
   change-set i f [] d = refl
   change-set zero f (x ∷ l) d = refl
   change-set (suc i) f (x ∷ l) d = ap (λ (t : List A). x ∷ t) (change-set i f l d)
-
--- as many places as are in use, of an array of m
-pub take-min : {A : Type 0} (n m : ℕ) (l : List A) → length l ≡ m → take (min n m) l ≡ take n l
-take-min n m l e = at (leb n m) refl
-  where
-    at : (t : Bool) → leb n m ≡ t → take (min n m) l ≡ take n l
-    at true h = let b = leb-true n m h in let k : min n m ≡ n = omega arith in rw (k)
-    at false h = let b = leb-false n m h in let k : min n m ≡ length l = omega arith in rw (k, take-length l, take-all n l (omega arith))
 
 -- an array field's length, which what is known of the struct gives of the field's machine values
 pub long : {X Y : Type 0} (f : X → Y) (l : List X) (n : ℕ) → length (map f l) ≡ n → length l ≡ n

@@ -1,7 +1,7 @@
 -- laws that the proofs of several functions cite
 pub mod Laws
-pub mod Tests
 pub mod Steps
+pub mod Deciding
 pub mod Rings
 pub mod Apart
 pub mod Turning

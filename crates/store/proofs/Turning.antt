@@ -34,11 +34,12 @@ use Rattle.decide.specs.Move.{storedAs, heldAs, cachedAs, moveOf}
 use Rattle.decide.specs.declared.Look.{Look}
 use Rattle.decide.specs.declared.Move.{Move}
 use Rattle.decide.proofs.Effects.{Carries, carries, decides}
-use Rattle.store.specs.Pieces.{PlaceIn, WordIn, ownAfter}
+use Rattle.store.specs.Pieces.{ownAfter}
+use Rattle.scan.specs.Scan.{PlaceIn, WordIn}
 use Rattle.store.specs.declared.turns.Ring.{Ring}
 use Rattle.store.proofs.Apart.{countFrom, cells-more, Apart, apart-seen, waiting-more, owned-more, Coming}
 use Rattle.store.proofs.Rings.{noRing, ring-none}
-use Rattle.store.proofs.Steps.{stands}
+use Rattle.scan.proofs.Laws.{stands}
 
 -- ---- the bytes of a trace
 

@@ -7,11 +7,12 @@ ghost use Rattle.shape.specs.Fresh.{freshOf, zeros, freshRefused, made};
 ghost use Rattle.shape.specs.Sound.{soundOf};
 ghost use Rattle.shape.specs.Step.{stepped, answerOf};
 ghost use Rattle.shape.specs.Turns.{FreshTurned};
+ghost use Rattle.scan.specs.Scan.{Decided};
 
 mod parts;
-mod places;
 mod turns;
 
+use decide::Move;
 use figure::ADDRESSES;
 use figure::Address;
 use figure::DEPTH;
@@ -109,54 +110,27 @@ fn zero_store() -> Store
 pub fn sound(s: Store) -> bool
     ensures { λ r. ⌜ r ≡ soundOf s ⌝ }
 {
-    let z = s.sizes;
-    let n = places::at_most(z.engines, ENGINES);
-    let mut right = figure::judge_sizes(z) == 0;
-    let mut i: usize = 0;
-    while i < n {
-        let o = s.outs[i];
-        let q = s.ins[i];
-        right = parts::still_sound(right, o, q, z);
-        i += 1;
-    }
-    right
+    let c = scan::scan_by_value(s, figure::no_record());
+    c.sound
 }
 
-// One step: the store and the action in, the number, the store and the event out. The queues are tested for 17 where they stand: a function that
-// takes the store would copy it once more.
-pub fn step(s: Store, x: Record) -> Stepped
-    ensures { λ r. ⌜ r ≡ stepped s x ⌝ }
+// The store after a move that was decided by what the action sees of it: one engine's queues and cache, a word, and the in queues that the entry joins.
+fn moved(s: Store, x: Record, m: Move) -> Store
+    requires { ⌜ Decided s x m ⌝ }
+    ensures { λ r. ⌜ r ≡ stepped s x .store ⌝ }
 {
+    let k = scan::place_in(x.engine);
     let mut t = s;
-    let z = t.sizes;
-    let n = places::at_most(z.engines, ENGINES);
-    let mut right = figure::judge_sizes(z) == 0;
-    let mut full = false;
-    let mut i: usize = 0;
-    while i < n {
-        let o = t.outs[i];
-        let q = t.ins[i];
-        right = parts::still_sound(right, o, q, z);
-        full = parts::or_full(full, q.len, z.depth);
-        i += 1;
-    }
-    let k = places::place_in(x.engine);
-    let a = places::word_in(x.address);
     let o = t.outs[k];
-    let q = t.ins[k];
-    let c = t.caches[k];
-    let m = decide::decide(
-        z,
-        x,
-        parts::look(right, x.engine, a, o, q, c, t.memory[a], full),
-    );
     let o = parts::out_moved(o, m);
     t.outs[k] = o;
+    let q = t.ins[k];
     let q = parts::in_left(q, m);
     t.ins[k] = q;
+    let c = t.caches[k];
     let c = parts::cache_moved(c, m);
     t.caches[k] = c;
-    let b = places::word_in(m.entry.address);
+    let b = scan::word_in(m.entry.address);
     t.memory[b] = decide::stored(m, t.memory[b]);
     let entry = m.entry;
     let to = m.to;
@@ -167,6 +141,16 @@ pub fn step(s: Store, x: Record) -> Stepped
         t.ins[j] = p;
         j += 1;
     }
+    t
+}
+
+// One step: the store and the action in, the number, the store and the event out.
+pub fn step(s: Store, x: Record) -> Stepped
+    ensures { λ r. ⌜ r ≡ stepped s x ⌝ }
+{
+    let c = scan::scan_by_value(s, x);
+    let m = scan::move_of(c);
+    let t = moved(s, x, m);
     let event = m.said.event;
     Stepped {
         number: m.said.number,
@@ -175,30 +159,20 @@ pub fn step(s: Store, x: Record) -> Stepped
     }
 }
 
-// Each action in turn as the step takes it, from a fresh store; its trace goes over the front of the lent buffer. A run hands no store on.
-pub fn turns_from_fresh(z: Sizes, table: &[u32], actions: &[u8], trace: &mut [u8]) -> u8
-    ensures { λ r. ⌜ FreshTurned z (now (table .entry)) (now (actions .entry)) (now (trace .entry)) r (now (trace .exit)) ⌝ }
-{
-    let number = judge_fresh(z, table);
-    if number == 0 {
-        turns::take_turns(z, table, actions, trace);
-    }
-    number
-}
-
-// The same over a store that the scope keeps: it is taken out, stepped by value and put back. The scope is C, so that the call has its plain name and what it
-// is lent and answers is laid out as C does.
+// The same over a store that the scope keeps: it is looked at where it stands and, if the action is accepted, taken out, moved and put back. The scope is C, so that the call has
+// its plain name and what it is lent and answers is laid out as C does.
 #[no_mangle]
 pub extern "C" fn step_in_place(s: &mut Store, x: Record) -> Answer
     ensures { λ r. ⌜ (now (s .exit) ≡ stepped (now (s .entry)) x .store) × (r ≡ answerOf (stepped (now (s .entry)) x)) ⌝ }
 {
-    let v = *s;
-    let t = step(v, x);
-    *s = t.store;
-    Answer {
-        number: t.number,
-        event: t.event,
+    let c = scan::scan_of(s, x);
+    let m = scan::move_of(c);
+    if m.said.number == 0 {
+        let v = *s;
+        let t = moved(v, x, m);
+        *s = t;
     }
+    m.said
 }
 
 // The step in place for callers that hold no store to lend: a local is lent.
@@ -212,4 +186,15 @@ pub fn once(s: Store, x: Record) -> Stepped
         store: t,
         event: n.event,
     }
+}
+
+// Each action in turn as the step takes it, from a fresh store; its trace goes over the front of the lent buffer. A run hands no store on.
+pub fn turns_from_fresh(z: Sizes, table: &[u32], actions: &[u8], trace: &mut [u8]) -> u8
+    ensures { λ r. ⌜ FreshTurned z (now (table .entry)) (now (actions .entry)) (now (trace .entry)) r (now (trace .exit)) ⌝ }
+{
+    let number = judge_fresh(z, table);
+    if number == 0 {
+        turns::take_turns(z, table, actions, trace);
+    }
+    number
 }

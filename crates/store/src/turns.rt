@@ -1,7 +1,7 @@
 // The turns of a run from a fresh store. What the store is made of stands apart, in arrays that one loop holds and alters element by element: passing an
 // array of structs to a function would copy it at every turn. Queues are rings, since no store is handed back whose unused places could tell.
 ghost use mathlib.Core.Path.{_≡_};
-ghost use mathlib.Core.Bool.{Bool, true, false};
+ghost use mathlib.Core.Bool.{true, false};
 ghost use Prim.Native.Nat.{_+_, _-_, _*_, _%_, _≤_, _<_};
 ghost use lib.Dec.{eqb};
 ghost use lib.ListN.{length, take, replicate};
@@ -11,7 +11,6 @@ ghost use Rattle.shape.specs.Parts.{any, full, over};
 ghost use Rattle.shape.specs.Turns.{FreshTurned};
 ghost use Rattle.store.specs.Pieces.{ownAfter};
 ghost use Rattle.store.specs.declared.turns.Ring.{Ring};
-use super::places;
 use decide::Look;
 use decide::Move;
 use figure::ADDRESSES;
@@ -167,8 +166,8 @@ pub(crate) fn take_turns(z: Sizes, table: &[u32], actions: &[u8], trace: &mut [u
     let mut i = 0;
     while i < n {
         let x = lists::bytes::record_at(actions, RECORD * i);
-        let k = places::place_in(x.engine);
-        let a = places::word_in(x.address);
+        let k = scan::place_in(x.engine);
+        let a = scan::word_in(x.address);
         let c = cache_place(k, a);
         let o = outs[k];
         let q = ins[k];
@@ -204,7 +203,7 @@ pub(crate) fn take_turns(z: Sizes, table: &[u32], actions: &[u8], trace: &mut [u
             ins[j] = ring_joined(r, 1);
             j += 1;
         }
-        let b = places::word_in(address);
+        let b = scan::word_in(address);
         memory[b] = decide::stored(m, memory[b]);
         let c = cache_place(k, b);
         held[c] = decide::held(m, held[c]);

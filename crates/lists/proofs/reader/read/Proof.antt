@@ -8,7 +8,7 @@ use lib.ListN.{length}
 use denote.Ref.{now}
 use borrow.Author.Tests.{lt-ltb, le-ltb}
 use Rattle.figure.specs.Refusals.{firstOf, sizesRefused, mostActions}
-use Rattle.figure.proofs.First.{Passed, testAt, numberAt, passed-more, same-not, other-not}
+use Rattle.figure.proofs.First.{Passed, testAt, refusalAt, passed-more, same-not, other-not}
 use Rattle.lists.specs.Bytes.{u32At}
 use Rattle.lists.specs.Record.{recordWidth}
 use Rattle.lists.specs.Read.{version, headerWidth, versionAt, sizesAt, afterHeader, afterMemory, readRefused, layoutOf, readOf}
@@ -59,7 +59,7 @@ passed-9 c =
     passed-more 2 (lengthsRefused s) (passed-8 (c .before)) (le-ltb mostActions (afterMemory s / recordWidth) (c .if7 .left))
 
 -- the reader's answer after the sizes, from the place where they passed
-after-sizes : (c : tie.Else4) (k : ℕ) → Passed k (lengthsRefused (bytes (c .before .before .before .before .before .before .before .before .before .before .before))) → testAt k (lengthsRefused (bytes (c .before .before .before .before .before .before .before .before .before .before .before))) ≡ true → layoutOf (numberAt k (lengthsRefused (bytes (c .before .before .before .before .before .before .before .before .before .before .before)))) (bytes (c .before .before .before .before .before .before .before .before .before .before .before)) ≡ readOf (bytes (c .before .before .before .before .before .before .before .before .before .before .before))
+after-sizes : (c : tie.Else4) (k : ℕ) → Passed k (lengthsRefused (bytes (c .before .before .before .before .before .before .before .before .before .before .before))) → testAt k (lengthsRefused (bytes (c .before .before .before .before .before .before .before .before .before .before .before))) ≡ true → layoutOf (refusalAt k (lengthsRefused (bytes (c .before .before .before .before .before .before .before .before .before .before .before)))) (bytes (c .before .before .before .before .before .before .before .before .before .before .before)) ≡ readOf (bytes (c .before .before .before .before .before .before .before .before .before .before .before))
 after-sizes c k = read-lengths (bytes (c .before .before .before .before .before .before .before .before .before .before .before)) (passed-3 (c .before .before .before .before .before)) (in-range c) k
 
 refused-requires : tie.Need-refused-requires

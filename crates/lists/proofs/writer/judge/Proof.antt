@@ -9,7 +9,7 @@ use lib.ListN.{length}
 use denote.Ref.{now}
 use borrow.Author.Tests.{lt-ltb, le-ltb}
 use Rattle.figure.specs.Refusals.{Refusal, firstOf, sizesRefused}
-use Rattle.figure.proofs.First.{Passed, testAt, numberAt, passed-more, same-not, other-not}
+use Rattle.figure.proofs.First.{Passed, testAt, refusalAt, passed-more, same-not, other-not}
 use Rattle.lists.specs.Read.{headerWidth, listBytes}
 use Rattle.lists.specs.Write.{writeRefused}
 use Rattle.lists.proofs.Refused.{partsRefused, write-sizes, write-at}
@@ -28,7 +28,7 @@ number c = firstOf (writeRefused (c .args .sizes) (now (c .args .memory)) (now (
 in-range : (c : tie.Else1) → firstOf (sizesRefused (c .before .before .before .before .args .sizes)) ≡ 0
 in-range c = sym (c .before .judge-sizes .ensures) ∙ c .if1 .left
 
-first-part : (c : tie.Else1) (k : ℕ) → Passed k (parts (c .before .before .before .before)) → testAt k (parts (c .before .before .before .before)) ≡ true → numberAt k (parts (c .before .before .before .before)) ≡ number (c .before .before .before .before)
+first-part : (c : tie.Else1) (k : ℕ) → Passed k (parts (c .before .before .before .before)) → testAt k (parts (c .before .before .before .before)) ≡ true → refusalAt k (parts (c .before .before .before .before)) ≡ number (c .before .before .before .before)
 first-part c k =
     let a = c .before .before .before .before .args in
     write-at (a .sizes) (now (a .memory)) (now (a .actions)) (a .room) (in-range c) k

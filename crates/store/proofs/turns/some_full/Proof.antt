@@ -8,7 +8,7 @@ use borrow.Author.Tests.{le-leb, lt-leb}
 use Rattle.shape.specs.Parts.{any, full}
 use Rattle.store.specs.declared.turns.Ring.{Ring}
 use Rattle.store.proofs.Laws.{long}
-use Rattle.store.proofs.Tests.{any-more, any-hit}
+use Rattle.scan.proofs.Laws.{any-more, any-hit}
 use borrow.Author.Needs.{needs}
 use Rattle.store.proofs.turns.some_full.Statement.{statement}
 use Rattle.store.proofs.turns.some_full.Tie as tie

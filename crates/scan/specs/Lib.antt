@@ -1,0 +1,2 @@
+-- what the functions over a lent store answer, and what a scan keeps
+pub mod Scan
