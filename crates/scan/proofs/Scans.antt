@@ -20,17 +20,13 @@ use Rattle.shape.proofs.Kept.{Ranged, sound-parts, sound-whole, sizes-ranged}
 use Rattle.shape.proofs.Places.{and-both}
 use Rattle.decide.specs.Effect.{Seen}
 use Rattle.scan.proofs.Laws.{any-more, any-hit, all-at, all-each, all-next, any-next, Stands, stands}
-use Rattle.scan.specs.Scan.{outOn, inOn, glanceAt, LongAt, soundPlace, startedAs, passedAs, Before, Shown, Testing, Ended, Underway, places, Onward, lookOf, Scanned}
+use Rattle.scan.specs.Scan.{outOn, inOn, glanceAt, LongAt, soundPlace, firstAs, startedAs, passedAs, Before, Shown, Testing, Ended, Underway, places, Onward, lookOf, Scanned}
 use Rattle.scan.specs.declared.Glance.{Glance}
 use Rattle.scan.specs.declared.Scan.{Scan}
 
 -- ---- before the test
 
--- the scan with its first glance, as `with_first` answers it, and at place k
-abbrev pub firstAs : Scan → Glance → Scan
-firstAs c g =
-    record { action = c .action; first = pick (eqb (c .k) 0) g (c .first); i = c .i; k = c .k; a = c .a; own = c .own; begun = c .begun; sound = c .sound; full = c .full; going = c .going }
-
+-- the scan at place k
 abbrev pub atPlace : Scan → ℕ → Scan
 atPlace c k =
     record { action = c .action; first = c .first; i = c .i; k = k; a = c .a; own = c .own; begun = c .begun; sound = c .sound; full = c .full; going = c .going }

@@ -2,7 +2,7 @@
 use mathlib.Core.Bool.{Bool, true, false, _&&_, _||_}
 use mathlib.Core.Path.{_≡_}
 use Prim.Native.Nat.{ℕ, suc, pred, _+_, _*_, _-_, _≤_, _<_}
-use lib.Dec.{leb, ltb}
+use lib.Dec.{eqb, leb, ltb}
 use lib.ListN.{length, take, getD}
 use Rattle.figure.specs.Refusals.{firstOf, pick, mostEngines, mostAddresses, mostDepth}
 use Rattle.figure.specs.declared.Record.{Record}
@@ -66,6 +66,11 @@ soundPlace g k =
     leb (g .outs) (g .sizes .depth)
     && (leb (g .ins) (g .sizes .depth)
     && (pick (ltb k (g .outs)) (soundOutEntry (g .sizes) (g .out)) true && pick (ltb k (g .ins)) (soundInEntry (g .sizes) (g .into)) true))
+
+-- the first glance is kept
+abbrev pub firstAs : Scan → Glance → Scan
+firstAs c g =
+    record { action = c .action; first = pick (eqb (c .k) 0) g (c .first); i = c .i; k = c .k; a = c .a; own = c .own; begun = c .begun; sound = c .sound; full = c .full; going = c .going }
 
 abbrev pub startedAs : Scan → Sizes → Bool → Scan
 startedAs c z own =

@@ -2,12 +2,11 @@
 ghost use mathlib.Core.Path.{_≡_};
 ghost use mathlib.Core.Bool.{true, false};
 ghost use Prim.Native.Nat.{_<_};
-ghost use lib.Dec.{eqb};
-ghost use Rattle.figure.specs.Refusals.{pick, mostEngines, mostAddresses, mostDepth};
+ghost use Rattle.figure.specs.Refusals.{mostEngines, mostAddresses, mostDepth};
 ghost use Rattle.figure.specs.declared.Record.{Record};
 ghost use Rattle.shape.specs.declared.Store.{Store};
 ghost use Rattle.decide.specs.Move.{moveOf};
-ghost use Rattle.scan.specs.Scan.{PlaceIn, WordIn, glanceAt, LongAt, soundPlace, lookOf, startedAs, passedAs, Onward, Underway, Scanned};
+ghost use Rattle.scan.specs.Scan.{PlaceIn, WordIn, glanceAt, LongAt, soundPlace, lookOf, firstAs, startedAs, passedAs, Onward, Underway, Scanned};
 use decide::Look;
 use decide::Move;
 use figure::ADDRESSES;
@@ -116,7 +115,7 @@ fn begin(x: Record) -> Scan
 
 // The first glance is kept: it shows the action's engine its oldest entries and its word.
 fn with_first(c: Scan, g: Glance) -> Scan
-    ensures { λ r. ⌜ r ≡ record { action = c .action; first = pick (eqb (c .k) 0) g (c .first); i = c .i; k = c .k; a = c .a; own = c .own; begun = c .begun; sound = c .sound; full = c .full; going = c .going } ⌝ }
+    ensures { λ r. ⌜ r ≡ firstAs c g ⌝ }
 {
     let mut t = c;
     if c.k == 0 {
