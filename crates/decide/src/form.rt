@@ -51,10 +51,12 @@ pub(crate) fn judge_form(z: Sizes, x: Record) -> u8
     if figure::is_outside(1, z.engines, x.engine.0) {
         return 12;
     }
-    if address_outside(z, x) {
+    let outside = address_outside(z, x);
+    let right = fields_right(x);
+    if outside {
         return 13;
     }
-    if !fields_right(x) {
+    if !right {
         return 14;
     }
     0

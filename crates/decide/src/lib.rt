@@ -152,7 +152,8 @@ fn write(z: Sizes, x: Record, l: Look) -> Move
 fn publish(z: Sizes, x: Record, l: Look) -> Move
     ensures { λ r. ⌜ r ≡ turned z x l (MW (x .engine .0)) ⌝ }
 {
-    if l.outs == 0 {
+    let empty = l.outs == 0;
+    if empty {
         return refuse(25);
     }
     if l.blocked {

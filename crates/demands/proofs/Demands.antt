@@ -1,65 +1,51 @@
--- The three demands, one after another, in their own words, each with what proves it. Read this first. Assumes nothing.
-use mathlib.Core.Bool.{true, false}
-use mathlib.Core.List.{List, [], _++_, map, map-append, Perm}
+-- The demands about a run, one after another, each with what proves it. Assumes nothing.
+use mathlib.Core.Bool.{true, not}
+use mathlib.Core.List.{List, [], _++_, map, map-append}
 use mathlib.Core.Path.{_≡_, refl, sym, ap, _∙_}
 use Prim.Native.Nat.{ℕ, zero, suc, _+_, _-_, _*_, _≤_, _<_}
 use native.Mathlib.Omega.{arith}
-use lib.Dec.{eqb}
-use lib.ListN.{length, getD, take}
+use lib.ListN.{length, getD, take, length-map}
 use lib.Seq.{take-at}
-use Rattle.figure.specs.Account.{Event, refused, event, Book, blank, book, log, account, settled}
+use borrow.Author.Tests.{le-ltb}
+use Rattle.figure.specs.Account.{Event, blank, log, book, account, settledSlots, settled}
 use Rattle.figure.specs.Event.{eventView}
-use Rattle.figure.specs.Demand.{Serial, serial?, own, Rises, Begins, bookOf, Right}
-use Rattle.figure.specs.Figure.{Step, fresh, accepted, next, engine?}
+use Rattle.figure.specs.Demand.{Serial, serial?, Begins, Opens, bookOf, Right}
 use Rattle.figure.specs.Record.{noRecord}
-use Rattle.figure.specs.Refusals.{pick, firstOf, unless}
+use Rattle.figure.specs.Refusals.{Refusal, firstOf, unless, sizesRefused, mostActions}
 use Rattle.figure.specs.declared.Record.{Record}
 use Rattle.figure.specs.declared.Sizes.{Sizes}
-use Rattle.figure.proofs.First.{Numbered, NoneApplies, first-none, none-first, numbered-append, none-split}
-use Rattle.figure.proofs.Respects.{Agrees}
+use Rattle.figure.proofs.Begins.{begins-on, opens-flat}
+use Rattle.figure.proofs.First.{Numbered, Silent, first-none, none-first, first-not, first-front, numbered-append, none-append, none-split, silent-append}
 use Rattle.figure.proofs.Machines.{below, below-append}
 use Rattle.figure.proofs.Step.{serial-test}
 use Rattle.figure.proofs.Theorem.{right}
-use Rattle.lists.specs.Bytes.{Bytes, rows, laid}
-use Rattle.lists.specs.Read.{readRefused, readOf, memoryOf, actionsOf, actionBytesOf}
+use Rattle.lists.specs.Bytes.{rows, laid}
+use Rattle.lists.specs.Read.{sizesAt, readRefused, readOf}
 use Rattle.lists.specs.Record.{recordWidth, recordBytes}
+use Rattle.lists.proofs.Codecs.{record-lawful}
+use Rattle.lists.proofs.Things.{length-coded}
 use Rattle.lists.specs.Line.{lineWidth}
-use Rattle.lists.specs.Write.{writeRefused, Wrote}
-use Rattle.lists.specs.declared.writer.Written.{Written}
-use Rattle.lists.proofs.RoundTrip.{ListHolds, reads-back, Rewritten, writes-back}
-use Rattle.lists.proofs.Sized.{read-number, read-numbered}
-use Rattle.shape.specs.Fresh.{freshOf, freshRefused, made, zeros}
-use Rattle.shape.specs.Sound.{soundOf}
-use Rattle.shape.specs.Step.{formRefused, stepRefused, actionOf, stepped}
+use Rattle.lists.proofs.Sized.{read-number, read-numbered, taken-none, held}
+use Rattle.shape.specs.Fresh.{freshOf}
+use Rattle.shape.specs.Step.{stepped}
 use Rattle.shape.specs.Trace.{traced}
-use Rattle.shape.specs.Turns.{storeAfter, traceAfter}
-use Rattle.shape.specs.View.{view, stepView}
-use Rattle.shape.specs.declared.Store.{Store}
-use Rattle.shape.proofs.Bridge.{formed-accepts, formed-next, formed-tells}
-use Rattle.shape.proofs.Kept.{refused-keeps}
-use Rattle.shape.proofs.Numbers.{step-number, step-zero, made-number, made-zeros}
-use Rattle.shape.proofs.Shaped.{Shaped}
+use Rattle.shape.specs.Turns.{storeAfter}
+use Rattle.shape.specs.View.{stepView}
 use Rattle.shape.proofs.Trails.{trace-at, trace-alike}
 use Rattle.demands.proofs.Follows.{stepsBelow}
-use Rattle.demands.proofs.Lengths.{length-account, all-counted}
-use Rattle.demands.proofs.Listed.{Listed, listed-account}
-use Rattle.demands.proofs.Runs.{runMemory, runSteps, followed, run-events, run-book}
-use Rattle.demands.specs.Lines.{accountBytes}
+use Rattle.demands.proofs.Listed.{listed-account}
+use Rattle.demands.proofs.Lengths.{log-most, perm-long, length-account, all-counted, opens-lines, settled-front}
+use Rattle.demands.specs.Demand.{runMemory, runSteps, Untouched, bookAfter, Demand3, Shorter}
+use Rattle.demands.proofs.Runs.{length-run, followed, run-events, run-book}
+use Rattle.demands.specs.Lines.{accountBytes, settledBytes}
 use Rattle.demands.specs.Run.{runSizes, runFresh, runAction, runTrace, runBook, ownRefused, runRefused, runNumber, countsAs, Ran}
 use Rattle.demands.specs.declared.Counts.{Counts}
 
--- ==== Demand 1. "Every call answers for every list, record, table or state, and ends. No caller has tested anything."
--- Every public function of the crates is proved, with no `requires`: that is the checker's own verdict. What is left is:
--- "A refusal gives its number; the state and all lent buffers stay as they came."
+-- ==== Demand 1. "A refusal gives its number; the state and all lent buffers stay as they came."
 
 number-of : (k : ℕ) (list : List ℕ) → countsAs k list .number ≡ k
 number-of zero list = refl
 number-of (suc k) list = refl
-
-pub record Untouched (r : Counts) (trace account trace′ account′ : List ℕ) : Type 0 where
-  pub counts : r ≡ record { number = r .number; accepted = 0; refused = 0; events = 0; settled = 0 }
-  pub trace-stays : trace′ ≡ trace
-  pub account-stays : account′ ≡ account
 
 module _ {list trace account : List ℕ} {r : Counts} {trace′ account′ : List ℕ} (h : Ran list trace account r trace′ account′) where
   run-number : r .number ≡ runNumber list trace account
@@ -67,90 +53,29 @@ module _ {list trace account : List ℕ} {r : Counts} {trace′ account′ : Lis
 
   pub refused-run : ¬ (r .number ≡ 0) → Untouched r trace account trace′ account′
   unfolding laid unless
-  refused-run n = at (runNumber list trace account) (sym run-number) (h .counts) (h .trace-is) (h .account-is)
+  refused-run n = at (runNumber list trace account) _ _ (sym run-number) (h .counts) (h .trace-is) (h .account-is)
     where
-      at : (k : ℕ) → k ≡ r .number → r ≡ countsAs k list → trace′ ≡ laid (unless k (rows recordBytes (runTrace list)) []) trace → account′ ≡ laid (unless k (accountBytes (runSizes list) (runBook list)) []) account
-          → Untouched r trace account trace′ account′
-      at zero e c p q = absurd (n (sym e))
-      at (suc k) e c p q = record { counts = c ∙ rw e; trace-stays = p; account-stays = q }
+      -- whatever an accepted run would have left
+      at : (k : ℕ) (records lines : List ℕ) → k ≡ r .number → r ≡ countsAs k list → trace′ ≡ laid (unless k records []) trace → account′ ≡ laid (unless k lines []) account → Untouched r trace account trace′ account′
+      at zero records lines e c p q = absurd (n (sym e))
+      at (suc k) records lines e c p q = record { counts = c ∙ rw e; trace-stays = p; account-stays = q }
 
--- a refused step: its number, the state it was given, a record of zeros
-pub refused-step : (s : Store) (x : Record) → ¬ (stepped s x .number ≡ 0) → (stepped s x .store ≡ s) × (stepped s x .event ≡ noRecord)
-refused-step = refused-keeps
-
--- a refused fresh store: a state of zeros
-pub refused-fresh : (z : Sizes) (table : List ℕ) → ¬ (made z table .number ≡ 0) → made z table .store ≡ zeros
-refused-fresh = made-zeros
-
--- ==== Demand 2. "On a sound store a well-formed step is accepted exactly when Figure 2 allows it and the queues it adds to have
--- room; next state and value are the figure's."
-
-pub record Steps (s : Store) (x : Record) : Type 0 where
-  pub exactly : eqb (stepped s x .number) 0 ≡ accepted (s .sizes) (view s) (actionOf x)
-  pub next-state : stepped s x .number ≡ 0 → Agrees (s .sizes) (view (stepped s x .store)) (next (view s) (actionOf x))
-  pub value : eventView (traced (stepped s x)) ≡ pick (accepted (s .sizes) (view s) (actionOf x)) (event (view s) (actionOf x)) refused
-
-pub steps : (s : Store) → soundOf s ≡ true → Shaped s → (x : Record) → firstOf (formRefused (s .sizes) x) ≡ 0 → Steps s x
-steps s h g x f = record { exactly = formed-accepts s h g x f; next-state = formed-next s h g x f; value = formed-tells s h g x f }
-
--- "Every other call refuses exactly when the rules give a number, the first in their order"
-pub step-refuses : (s : Store) (x : Record) → stepped s x .number ≡ firstOf (stepRefused s x)
-step-refuses = step-number
-
-pub step-accepts : (s : Store) (x : Record) → NoneApplies (stepRefused s x) → stepped s x .number ≡ 0
-step-accepts = step-zero
-
-pub fresh-refuses : (z : Sizes) (table : List ℕ) → made z table .number ≡ firstOf (freshRefused z table)
-fresh-refuses = made-number
-
-pub reader-refuses : (list : List ℕ) → readOf list .number ≡ firstOf (readRefused list)
-reader-refuses = read-number
-
-pub writer-refuses : {z : Sizes} {memory actions out : List ℕ} {r : Written} {out′ : List ℕ} → Wrote z memory actions out r out′ → r .number ≡ firstOf (writeRefused z memory actions (length out))
-writer-refuses h = h .number-is
+-- ==== Demand 2. "Every other call refuses exactly when the rules give a number, the first in their order"
 
 pub run-refuses : {list trace account : List ℕ} {r : Counts} {trace′ account′ : List ℕ} → Ran list trace account r trace′ account′ → r .number ≡ firstOf (runRefused list (length trace) (length account))
 unfolding runNumber
 run-refuses h = run-number h
+
+pub run-numbered : (list : List ℕ) (trace-room account-room : ℕ) → Numbered (runRefused list trace-room account-room)
+unfolding runRefused
+run-numbered list trace-room account-room = numbered-append (readRefused list) _ (read-numbered list) ((λ e. omega arith), ((λ e. omega arith), ((λ e. omega arith), tt)))
 
 -- "and the run takes each action in turn as that step does"
 pub in-turn : (list : List ℕ) (k : ℕ) → k < readOf list .actions → getD (runTrace list) k noRecord ≡ traced (stepped (storeAfter (runFresh list) (runAction list) k) (runAction list k))
 unfolding runTrace
 in-turn list k = trace-at (runFresh list) (runAction list) (readOf list .actions) k noRecord
 
--- "Lists round-trip, both ways, to the byte."
-pub written-reads-back : {z : Sizes} {memory actions out : List ℕ} {r : Written} {out′ : List ℕ} → Wrote z memory actions out r out′ → r .number ≡ 0 → ListHolds (take (r .length) out′) z memory actions
-written-reads-back h = reads-back h
-
-pub read-writes-back : (s : List ℕ) → Bytes s → readOf s .number ≡ 0 → {out : List ℕ} {r : Written} {out′ : List ℕ} → length s ≤ length out → Wrote (readOf s .sizes) (memoryOf s) (actionBytesOf s) out r out′ → Rewritten s out r out′
-read-writes-back = writes-back
-
 -- ==== Demand 3. "For any list the run accepts from a fresh store": h and ok.
-
--- the book after the first k actions of a list
-abbrev pub bookAfter : List ℕ → ℕ → Book
-bookAfter list k = book 0 (map eventView (traceAfter (runFresh list) (runAction list) k)) blank
-
-pub record Demand3 (list account′ : List ℕ) (r : Counts) : Type 0 where
-  -- what stands at the front of the account buffer is the account of what the trace says happened
-  pub bytes : take (lineWidth * r .events) account′ ≡ accountBytes (runSizes list) (runBook list)
-  -- one line for each item, in their order
-  pub lines : Listed (account (runSizes list) (runBook list)) account′
-  pub events : r .events ≡ length (account (runSizes list) (runBook list))
-  -- each action is accepted or refused
-  pub counted : r .accepted + r .refused ≡ length (runTrace list)
-  pub settled-count : r .settled ≡ length (settled (runSizes list) (runBook list))
-  -- "the account holds each accepted read and write exactly once"
-  pub once : Perm (account (runSizes list) (runBook list)) (log 0 (map eventView (runTrace list)))
-  pub tagged : Rises 0 (length (runSteps list)) (log 0 (map eventView (runTrace list)))
-  -- "each engine's events in its own order"
-  pub ordered : (i : ℕ) → own i (account (runSizes list) (runBook list)) ≡ own i (log 0 (map eventView (runTrace list)))
-  pub no-other : (i : ℕ) → engine? (runSizes list) i ≡ false → own i (account (runSizes list) (runBook list)) ≡ []
-  -- "and on one plain memory every read gets the value it got"
-  pub serial : Serial (runMemory list) (account (runSizes list) (runBook list))
-  -- "What is settled at one moment begins what is settled, and the account, at every later moment."
-  pub stays : (j k : ℕ) → j ≤ k → Begins (settled (runSizes list) (bookAfter list j)) (settled (runSizes list) (bookAfter list k))
-  pub begins : (j k : ℕ) → j ≤ k → Begins (settled (runSizes list) (bookAfter list j)) (account (runSizes list) (bookAfter list k))
 
 module _ (list : List ℕ) (ok : readOf list .number ≡ 0) where
   abbrev z : Sizes
@@ -170,11 +95,11 @@ module _ (list : List ℕ) (ok : readOf list .number ≡ 0) where
   later : (j k : ℕ) → j ≤ k → k ≡ (k - j) + j
   later j k h = omega arith
 
-  settled-stays : (j k : ℕ) → j ≤ k → Begins (settled z (bookAfter list j)) (settled z (bookAfter list k))
-  settled-stays j k h = rw (book-after j, book-after k, later j k h, more-steps j (k - j)) (right z (runMemory list) (stepsBelow z (runAction list) j) .stays (stepsBelow z (λ i. runAction list (i + j)) (k - j)))
+  slots-stay : (j k : ℕ) → j ≤ k → Opens (settledSlots z (bookAfter list j)) (settledSlots z (bookAfter list k))
+  slots-stay j k h = rw (book-after j, book-after k, later j k h, more-steps j (k - j)) (right z (runMemory list) (stepsBelow z (runAction list) j) .slots-stay (stepsBelow z (λ i. runAction list (i + j)) (k - j)))
 
-  settled-begins : (j k : ℕ) → j ≤ k → Begins (settled z (bookAfter list j)) (account z (bookAfter list k))
-  settled-begins j k h = rw (book-after j, book-after k, later j k h, more-steps j (k - j)) (right z (runMemory list) (stepsBelow z (runAction list) j) .begins (stepsBelow z (λ i. runAction list (i + j)) (k - j)))
+  slots-begin : (j k : ℕ) → j ≤ k → Opens (settledSlots z (bookAfter list j)) (bookAfter list k .slots)
+  slots-begin j k h = rw (book-after j, book-after k, later j k h, more-steps j (k - j)) (right z (runMemory list) (stepsBelow z (runAction list) j) .slots-begin (stepsBelow z (λ i. runAction list (i + j)) (k - j)))
 
   account-serial : Serial (runMemory list) (account z (runBook list))
   account-serial = rw (run-book list ok) (right-of .serial)
@@ -183,17 +108,53 @@ module _ (list : List ℕ) (ok : readOf list .number ≡ 0) where
   pub never-31 : serial? (runMemory list) (account z (runBook list)) ≡ true
   never-31 = serial-test (runMemory list) (account z (runBook list)) account-serial
 
+  -- a list that the reader takes, and buffers that are long enough: the run takes them
+  pub run-taken : (trace account′ : List ℕ) → recordWidth * readOf list .actions ≤ length trace → lineWidth * length (account z (runBook list)) ≤ length account′ → runNumber list trace account′ ≡ 0
+  unfolding runNumber runRefused
+  run-taken trace account′ t a =
+      first-none (runRefused list (length trace) (length account′))
+      (none-append (readRefused list) (ownRefused list (length trace) (length account′)) (taken-none list ok)
+      (le-ltb (length trace) (recordWidth * readOf list .actions) t, (le-ltb (length account′) (lineWidth * length (account z (runBook list))) a, (ap not never-31, tt))))
+
+-- none of the reader's numbers is 31
+sizes-silent : (z : Sizes) → Silent 31 (sizesRefused z)
+unfolding sizesRefused
+sizes-silent z = (λ e. absurd (omega arith), (λ e. absurd (omega arith), (λ e. absurd (omega arith), tt)))
+
+read-silent : (list : List ℕ) → Silent 31 (readRefused list)
+unfolding readRefused
+read-silent list =
+    (λ e. absurd (omega arith), (λ e. absurd (omega arith), (λ e. absurd (omega arith), silent-append 31 (sizesRefused (sizesAt list)) _ (sizes-silent (sizesAt list)) (λ e. absurd (omega arith), (λ e. absurd (omega arith), (λ e. absurd (omega arith), tt))))))
+
+-- the run never answers 31
+pub not-31 : {list trace account : List ℕ} {r : Counts} {trace′ account′ : List ℕ} → Ran list trace account r trace′ account′ → ¬ (r .number ≡ 31)
+unfolding runRefused
+not-31 {list} {trace} {account} h e = at (firstOf (readRefused list)) refl
+  where
+    own : List Refusal
+    own = ownRefused list (length trace) (length account)
+
+    answers : firstOf (readRefused list ++ own) ≡ 31
+    answers = sym (run-refuses h) ∙ e
+
+    at : (k : ℕ) → firstOf (readRefused list) ≡ k → ⊥
+    at zero q =
+        first-not 31 (readRefused list ++ own) (λ e. omega arith)
+        (silent-append 31 (readRefused list) own (read-silent list) (λ e. absurd (omega arith), (λ e. absurd (omega arith), (λ _. ap not (never-31 list (read-number list ∙ q)), tt)))) answers
+    at (suc k) q = first-not 31 (readRefused list) (λ e. omega arith) (read-silent list) (sym (first-front (readRefused list) own (λ n. omega arith)) ∙ answers)
+
 module _ {list trace account′ : List ℕ} {r : Counts} {trace″ account″ : List ℕ} (h : Ran list trace account′ r trace″ account″) (ok : r .number ≡ 0) where
   number-zero : runNumber list trace account′ ≡ 0
   number-zero = sym (run-number h) ∙ ok
 
-  run-numbered : Numbered (runRefused list (length trace) (length account′))
-  unfolding runRefused
-  run-numbered = numbered-append (readRefused list) _ (read-numbered list) ((λ e. omega arith), ((λ e. omega arith), ((λ e. omega arith), tt)))
-
-  reader-took : readOf list .number ≡ 0
+  pub reader-took : readOf list .number ≡ 0
   unfolding runNumber runRefused
-  reader-took = read-number list ∙ first-none (readRefused list) (none-split (readRefused list) (ownRefused list (length trace) (length account′)) (none-first (runRefused list (length trace) (length account′)) run-numbered number-zero) .0)
+  reader-took = read-number list ∙ first-none (readRefused list) (none-split (readRefused list) (ownRefused list (length trace) (length account′)) (none-first (runRefused list (length trace) (length account′)) (run-numbered list (length trace) (length account′)) number-zero) .0)
+
+  -- what stands at the front of the trace buffer
+  pub run-trace : take (recordWidth * readOf list .actions) trace″ ≡ rows recordBytes (runTrace list)
+  unfolding laid unless
+  run-trace = rw (h .trace-is, number-zero) (take-at (rows recordBytes (runTrace list)) _ _ (length-coded record-lawful (runTrace list) ∙ ap (λ (n : ℕ). recordWidth * n) (length-run list)))
 
   counts-of : r ≡ countsAs 0 list
   counts-of = h .counts ∙ ap (λ (k : ℕ). countsAs k list) number-zero
@@ -210,21 +171,29 @@ module _ {list trace account′ : List ℕ} {r : Counts} {trace″ account″ : 
         events = ap (λ (c : Counts). c .events) counts-of;
         counted = rw (counts-of) (all-counted (runTrace list));
         settled-count = ap (λ (c : Counts). c .settled) counts-of;
+        settled-bytes = rw (h .account-is, number-zero, counts-of) (settled-front z′ (runBook list) _);
         once = rw (run-book list reader-took, f) (g .once);
         tagged = rw (f) (g .tagged);
+        in-slots = λ k. rw (run-book list reader-took) (g .in-slots k);
         ordered = λ i. rw (run-book list reader-took, f) (g .ordered i);
         no-other = λ i e. rw (run-book list reader-took) (g .no-other i e);
         serial = account-serial list reader-took;
-        stays = settled-stays list reader-took;
-        begins = settled-begins list reader-took;
+        stays = λ j k l. opens-flat (slots-stay list reader-took j k l);
+        begins = λ j k l. begins-on _ (opens-flat (slots-begin list reader-took j k l));
+        bytes-stay = λ j k l. opens-lines 0 (slots-stay list reader-took j k l);
+        bytes-begin = λ j k l. begins-on _ (opens-lines 0 (slots-begin list reader-took j k l));
       }
 
--- the same of two lists of which one begins the other: equal sizes and memory, and the actions of the shorter are the first of the longer
-pub record Shorter (list longer : List ℕ) : Type 0 where
-  pub sizes : runSizes list ≡ runSizes longer
-  pub memory : memoryOf list ≡ memoryOf longer
-  pub fewer : readOf list .actions ≤ readOf longer .actions
-  pub same : (k : ℕ) → k < readOf list .actions → runAction list k ≡ runAction longer k
+-- an account has no more events than a list may have actions
+pub few-events : {list trace account′ : List ℕ} {r : Counts} {trace″ account″ : List ℕ} → Ran list trace account′ r trace″ account″ → r .events ≤ mostActions
+few-events {list} {trace} {account′} {r} h = at (r .number) refl
+  where
+    at : (k : ℕ) → r .number ≡ k → r .events ≤ mostActions
+    at zero q =
+        let d = demand-3 h q in
+        let es = map eventView (runTrace list) in
+        omega (arith, perm-long _ (log 0 es) (d .once), log-most 0 es, length-map (runTrace list) eventView, length-run list, held list (readOf list) refl .few)
+    at (suc k) q = rw (refused-run h (λ e. omega arith) .counts) (omega arith)
 
 module _ {list longer : List ℕ} (s : Shorter list longer) where
   shorter-book : runBook list ≡ bookAfter longer (readOf list .actions)
@@ -233,10 +202,23 @@ module _ {list longer : List ℕ} (s : Shorter list longer) where
       rw (s .sizes, s .memory)
       (ap (λ (rs : List Record). book 0 (map eventView rs) blank) (trace-alike (runFresh longer) (runAction list) (runAction longer) (readOf list .actions) (s .same)))
 
-  pub shorter-stays : readOf longer .number ≡ 0 → Begins (settled (runSizes list) (runBook list)) (settled (runSizes longer) (runBook longer))
-  unfolding runBook runTrace
-  shorter-stays ok = rw (shorter-book, s .sizes) (settled-stays longer ok (readOf list .actions) (readOf longer .actions) (s .fewer))
+  module _ (ok : readOf longer .number ≡ 0) where
+    shorter-slots-stay : Opens (settledSlots (runSizes list) (runBook list)) (settledSlots (runSizes longer) (runBook longer))
+    unfolding runBook runTrace
+    shorter-slots-stay = rw (shorter-book, s .sizes) (slots-stay longer ok (readOf list .actions) (readOf longer .actions) (s .fewer))
 
-  pub shorter-begins : readOf longer .number ≡ 0 → Begins (settled (runSizes list) (runBook list)) (account (runSizes longer) (runBook longer))
-  unfolding runBook runTrace
-  shorter-begins ok = rw (shorter-book, s .sizes) (settled-begins longer ok (readOf list .actions) (readOf longer .actions) (s .fewer))
+    shorter-slots-begin : Opens (settledSlots (runSizes list) (runBook list)) (runBook longer .slots)
+    unfolding runBook runTrace
+    shorter-slots-begin = rw (shorter-book, s .sizes) (slots-begin longer ok (readOf list .actions) (readOf longer .actions) (s .fewer))
+
+    pub shorter-stays : Begins (settled (runSizes list) (runBook list)) (settled (runSizes longer) (runBook longer))
+    shorter-stays = opens-flat shorter-slots-stay
+
+    pub shorter-begins : Begins (settled (runSizes list) (runBook list)) (account (runSizes longer) (runBook longer))
+    shorter-begins = begins-on _ (opens-flat shorter-slots-begin)
+
+    pub shorter-bytes-stay : Begins (settledBytes (runSizes list) (runBook list)) (settledBytes (runSizes longer) (runBook longer))
+    shorter-bytes-stay = opens-lines 0 shorter-slots-stay
+
+    pub shorter-bytes-begin : Begins (settledBytes (runSizes list) (runBook list)) (accountBytes (runSizes longer) (runBook longer))
+    shorter-bytes-begin = begins-on _ (opens-lines 0 shorter-slots-begin)

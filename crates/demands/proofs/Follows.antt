@@ -9,7 +9,8 @@ use Rattle.figure.specs.Figure.{State, Step, accepted, next, step, after}
 use Rattle.figure.specs.Refusals.{pick}
 use Rattle.figure.specs.declared.Record.{Record}
 use Rattle.figure.specs.declared.Sizes.{Sizes}
-use Rattle.figure.proofs.Respects.{Agrees, agrees-trans, accepted-agrees, next-agrees, event-agrees}
+use Rattle.figure.proofs.Respects.{agrees-trans, accepted-agrees, next-agrees, event-agrees}
+use Rattle.figure.specs.Agree.{Agrees}
 use Rattle.figure.proofs.Machines.{below}
 use Rattle.figure.proofs.Run.{after-runs, trace-tape}
 use Rattle.figure.proofs.Simulates.{simulates-each}
@@ -19,7 +20,8 @@ use Rattle.shape.specs.View.{view, stepView}
 use Rattle.shape.specs.declared.Store.{Store}
 use Rattle.shape.proofs.Bridge.{steps, tells}
 use Rattle.shape.proofs.Kept.{keeps-sound, keeps-sizes}
-use Rattle.shape.proofs.Shaped.{Shaped, keeps-shaped}
+use Rattle.shape.proofs.Shaped.{keeps-shaped}
+use Rattle.shape.specs.Shaped.{Shaped}
 use Rattle.shape.proofs.Trails.{next-store, next-record, store-trail, trace-trail}
 
 -- ---- two states that agree take a step alike

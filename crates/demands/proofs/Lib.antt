@@ -1,7 +1,8 @@
 -- read Demands first
+pub mod Bench
 pub mod Demands
 pub mod Listed
-pub mod Unique
 pub mod Lengths
 pub mod Follows
 pub mod Runs
+pub mod Worked

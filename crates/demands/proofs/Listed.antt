@@ -5,12 +5,8 @@ use Rattle.figure.specs.Account.{Item, Book, flat, unpublished, account}
 use Rattle.figure.specs.declared.Sizes.{Sizes}
 use Rattle.lists.specs.Bytes.{rows}
 use Rattle.lists.specs.Line.{noNumber}
+use Rattle.demands.specs.Demand.{Listed, none, more}
 use Rattle.demands.specs.Lines.{itemBytes, slotLines, accountBytes}
-
--- the bytes begin with a line for each item, in their order, whatever its number
-pub data Listed : List Item → List ℕ → Type 0 where
-  none : {bytes : List ℕ} → Listed [] bytes
-  more : (k : ℕ) (x : Item) (xs : List Item) (bytes : List ℕ) → Listed xs bytes → Listed (x ∷ xs) (itemBytes k x ++ bytes)
 
 listed-rows : (k : ℕ) (s : List Item) {xs : List Item} {bytes : List ℕ} → Listed xs bytes → Listed (s ++ xs) (rows (itemBytes k) s ++ bytes)
 unfolding rows

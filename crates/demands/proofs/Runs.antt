@@ -3,12 +3,12 @@ use mathlib.Core.List.{List, map}
 use mathlib.Core.Path.{_≡_, refl, ap, _∙_}
 use Prim.Native.Nat.{ℕ, _≤_}
 use native.Mathlib.Omega.{arith}
-use lib.ListN.{length, getD}
+use lib.ListN.{length}
 use borrow.Author.Tests.{eq-eqb}
 use Rattle.figure.specs.Account.{Event, blank, book, trace}
 use Rattle.figure.specs.Event.{eventView}
 use Rattle.figure.specs.Demand.{traceOf, bookOf}
-use Rattle.figure.specs.Figure.{Step, fresh, after}
+use Rattle.figure.specs.Figure.{fresh}
 use Rattle.figure.specs.Record.{noRecord}
 use Rattle.figure.specs.Refusals.{firstOf, sizesRefused}
 use Rattle.figure.proofs.First.{first-append, sizes-numbered}
@@ -22,19 +22,19 @@ use Rattle.shape.specs.View.{stepView}
 use Rattle.shape.proofs.Bridge.{fresh-agrees}
 use Rattle.shape.proofs.Kept.{fresh-sound}
 use Rattle.shape.proofs.Shaped.{fresh-shaped}
+use Rattle.shape.proofs.Trails.{length-trace}
 use Rattle.demands.proofs.Follows.{stepsBelow, Followed, follows}
+use Rattle.demands.specs.Demand.{runMemory, runSteps}
 use Rattle.demands.specs.Run.{runSizes, runFresh, runAction, runTrace, runBook}
-
--- the table of a list, as the figure's memory; its actions, as the figure's steps
-abbrev pub runMemory : List ℕ → ℕ → ℕ
-runMemory list a = getD (memoryOf list) a 0
-
-abbrev pub runSteps : List ℕ → List Step
-runSteps list = map (stepView (runSizes list)) (actionsOf list)
 
 -- the steps of all its actions
 pub steps-all : (list : List ℕ) → stepsBelow (runSizes list) (runAction list) (readOf list .actions) ≡ runSteps list
 steps-all list = rw (← (length-actions list)) (ap (map (stepView (runSizes list))) (below-all (actionsOf list) noRecord))
+
+-- every action has its record
+pub length-run : (list : List ℕ) → length (runTrace list) ≡ readOf list .actions
+unfolding runTrace
+length-run list = length-trace _ _ _
 
 module _ (list : List ℕ) (ok : readOf list .number ≡ 0) where
   pub table-length : length (memoryOf list) ≡ runSizes list .addresses

@@ -1,7 +1,7 @@
 -- The account in bytes. Assumes nothing.
 use mathlib.Core.List.{List, [], _∷_, _++_}
 use Prim.Native.Nat.{ℕ, suc}
-use Rattle.figure.specs.Account.{Item, reading, writing, Book, unpublished}
+use Rattle.figure.specs.Account.{Item, reading, writing, Book, unpublished, settledSlots}
 use Rattle.figure.specs.declared.Record.{Record}
 use Rattle.figure.specs.declared.Sizes.{Sizes}
 use Rattle.lists.specs.Bytes.{rows}
@@ -27,3 +27,7 @@ slotLines k (s ∷ ss) = rows (itemBytes k) s ++ slotLines (suc k) ss
 
 abbrev pub accountBytes : Sizes → Book → List ℕ
 accountBytes z b = slotLines 0 (b .slots) ++ rows (itemBytes noNumber) (unpublished (z .engines) (b .pending))
+
+-- what is settled of them: the 12-byte records of its slots, slot numbers included
+abbrev pub settledBytes : Sizes → Book → List ℕ
+settledBytes z b = slotLines 0 (settledSlots z b)

@@ -1,11 +1,11 @@
 -- The run: what it answers and what it leaves in the two lent buffers. Assumes nothing.
-use mathlib.Core.Bool.{Bool, true, false, not}
+use mathlib.Core.Bool.{Bool, not}
 use mathlib.Core.List.{List, [], _∷_, _++_, map}
 use mathlib.Core.Path.{_≡_}
-use Prim.Native.Nat.{ℕ, zero, suc, _+_, _*_}
+use Prim.Native.Nat.{ℕ, zero, suc, _*_}
 use lib.Dec.{eqb, ltb}
 use lib.ListN.{length, getD}
-use Rattle.figure.specs.Account.{Event, Book, blank, book, account, settled}
+use Rattle.figure.specs.Account.{Book, blank, book, account, settled}
 use Rattle.figure.specs.Event.{eventView}
 use Rattle.figure.specs.Demand.{serial?}
 use Rattle.figure.specs.Record.{noRecord}
@@ -17,7 +17,7 @@ use Rattle.lists.specs.Read.{readRefused, readOf, memoryOf, actionsOf}
 use Rattle.lists.specs.Record.{recordWidth, recordBytes}
 use Rattle.lists.specs.Line.{lineWidth}
 use Rattle.shape.specs.Fresh.{freshOf}
-use Rattle.shape.specs.Turns.{storeAfter, traceAfter}
+use Rattle.shape.specs.Turns.{traceAfter}
 use Rattle.shape.specs.declared.Store.{Store}
 use Rattle.demands.specs.Lines.{accountBytes}
 use Rattle.demands.specs.declared.Counts.{Counts}

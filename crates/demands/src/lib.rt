@@ -1,4 +1,4 @@
-// What a run answers. What the answer and the two lent buffers must be is in specs/; proofs/Demands.antt has the three demands, and is the first thing to read.
+// What a run answers. What the answer and the two lent buffers must be, and the demands about a run, are in specs/; proofs/ has the theorems.
 // The number of the refusal and zeros, or 0 and the four counts.
 pub struct Counts {
     pub number: u8,

@@ -1,12 +1,12 @@
 -- Which refusal is the first that applies: the one at place k, where those before it do not apply and it does; none, where none does. Assumes nothing.
 use mathlib.Core.Path.{_≡_, refl, sym, ap, _∙_}
-use mathlib.Core.Bool.{Bool, true, false, not}
+use mathlib.Core.Bool.{Bool, true, false, not, true≢false}
 use mathlib.Core.List.{List, [], _∷_, _++_}
 use Prim.Native.Nat.{ℕ, zero, suc}
 use native.Mathlib.Omega.{arith}
 use lib.Dec.{eqb}
 use borrow.Author.Tests.{eq-eqb, ne-eqb}
-use Rattle.figure.specs.Refusals.{Refusal, pick, firstOf, sizesRefused}
+use Rattle.figure.specs.Refusals.{Refusal, pick, firstOf, NoneApplies, sizesRefused}
 use Rattle.figure.specs.declared.Sizes.{Sizes}
 
 -- the first k refusals do not apply; the test of the refusal at place k, and its number
@@ -42,10 +42,6 @@ abbrev pub Numbered : List Refusal → Type 0
 Numbered [] = Unit {0}
 Numbered (r ∷ rs) = ¬ (r .number ≡ 0) × Numbered rs
 
-abbrev pub NoneApplies : List Refusal → Type 0
-NoneApplies [] = Unit {0}
-NoneApplies (r ∷ rs) = (r .applies ≡ false) × NoneApplies rs
-
 pub first-none : (rs : List Refusal) → NoneApplies rs → firstOf rs ≡ 0
 first-none [] h = refl
 first-none (r ∷ rs) h = rw (h .0) (first-none rs (h .1))
@@ -62,7 +58,26 @@ pub sizes-numbered : (z : Sizes) → Numbered (sizesRefused z)
 unfolding sizesRefused
 sizes-numbered z = (λ e. omega arith, (λ e. omega arith, (λ e. omega arith, tt)))
 
+-- ---- a number that is not the answer
+
+-- no refusal of number n applies
+abbrev pub Silent : ℕ → List Refusal → Type 0
+Silent n [] = Unit {0}
+Silent n (r ∷ rs) = (r .number ≡ n → r .applies ≡ false) × Silent n rs
+
+pub first-not : (n : ℕ) (rs : List Refusal) → ¬ (n ≡ 0) → Silent n rs → ¬ (firstOf rs ≡ n)
+first-not n [] z h = λ e. z (sym e)
+first-not n (r ∷ rs) z h = at (r .applies) refl (first-not n rs z (h .1))
+  where
+    at : (t : Bool) → r .applies ≡ t → ¬ (firstOf rs ≡ n) → ¬ (pick t (r .number) (firstOf rs) ≡ n)
+    at true q k e = true≢false (sym q ∙ h .0 e)
+    at false q k e = k e
+
 -- ---- two lists of refusals, one after the other
+
+pub silent-append : (n : ℕ) (rs qs : List Refusal) → Silent n rs → Silent n qs → Silent n (rs ++ qs)
+silent-append n [] qs h k = k
+silent-append n (r ∷ rs) qs h k = (h .0, silent-append n rs qs (h .1) k)
 
 pub numbered-append : (rs qs : List Refusal) → Numbered rs → Numbered qs → Numbered (rs ++ qs)
 numbered-append [] qs h k = k

@@ -6,11 +6,13 @@ pub mod Run
 pub mod Serial
 pub mod Own
 pub mod Order
+pub mod Begins
 pub mod Settled
+pub mod Places
 pub mod Theorem
 pub mod Respects
 pub mod Step
-pub mod Worked
+pub mod Bench
 pub mod Slips
 pub mod Told
 pub mod Entries

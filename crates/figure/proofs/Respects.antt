@@ -10,18 +10,9 @@ use lib.Dec.{leb}
 use borrow.Author.Tests.{le-leb}
 use Rattle.figure.specs.declared.Sizes.{Sizes}
 use Rattle.figure.specs.Figure.{upd, Out, wr, In, up, Engine, State, Step, R, W, MW, MR, CU, CI, all-room, engine?, address?, named, accepted, next, publish, update, join-in}
+use Rattle.figure.specs.Agree.{Alike, Agrees}
 use Rattle.figure.specs.Account.{read, refreshed, held, head-out, head-in, event}
 use Rattle.figure.proofs.Laws.{and-left, and-right, upd-each}
-
-module _ (z : Sizes) where
-  pub record Alike (e f : Engine) : Type 0 where
-    pub cache : (a : ℕ) → address? z a ≡ true → e .cache a ≡ f .cache a
-    pub outs : e .outs ≡ f .outs
-    pub ins : e .ins ≡ f .ins
-
-  pub record Agrees (s r : State) : Type 0 where
-    pub memory : (a : ℕ) → address? z a ≡ true → s .memory a ≡ r .memory a
-    pub engine : (i : ℕ) → engine? z i ≡ true → Alike (s .engine i) (r .engine i)
 
 pub agrees-refl : (z : Sizes) (s : State) → Agrees z s s
 agrees-refl z s = record { memory = λ a w. refl; engine = λ i y. record { cache = λ a w. refl; outs = refl; ins = refl } }

@@ -13,7 +13,7 @@ use Rattle.figure.specs.Demand.{serial?, own, logOf, bookOf}
 use Rattle.figure.proofs.Machines.{runs, tape}
 use Rattle.figure.proofs.Run.{trace-tape}
 use Rattle.figure.proofs.Simulates.{alone}
-use Rattle.figure.proofs.Worked.{sizes1, allZero, list1, sizes4, threes, list4}
+use Rattle.figure.proofs.Bench.{sizes1, allZero, list1, sizes4, threes, list4}
 
 -- ---- a run by given rules
 

@@ -5,7 +5,7 @@ use mathlib.Core.List.{List, [], _∷_, _++_}
 use lib.ListN.{take}
 use Rattle.figure.specs.declared.Sizes.{Sizes}
 use Rattle.figure.specs.Refusals.{pick}
-use Rattle.figure.specs.Figure.{upd, Out, wr, In, up, State, Step, R, W, MW, MR, CU, CI, accepted, next, step}
+use Rattle.figure.specs.Figure.{upd, Out, wr, In, up, State, Step, R, W, MW, MR, CU, CI, accepted, step}
 
 -- "The event of an accepted action fills in what happened"; a refused action has none
 pub data Event : Type 0 where
@@ -164,6 +164,9 @@ lowest zero f = 0
 lowest (suc zero) f = f 1
 lowest (suc (suc n)) f = min (lowest (suc n) f) (f (suc (suc n)))
 
--- "The settled part ends with the reads so far in the slot of the lowest floor"
+-- "The settled part ends with the reads so far in the slot of the lowest floor (write of that number included, if it is above 0)": its slots, and its items
+abbrev pub settledSlots : Sizes → Book → List (List Item)
+settledSlots z b = take (suc (lowest (z .engines) (floor b))) (b .slots)
+
 abbrev pub settled : Sizes → Book → List Item
-settled z b = flat (take (suc (lowest (z .engines) (floor b))) (b .slots))
+settled z b = flat (settledSlots z b)

@@ -2,6 +2,7 @@
 pub mod Refusals
 pub mod Record
 pub mod Figure
+pub mod Agree
 pub mod Account
 pub mod Event
 pub mod Ledger

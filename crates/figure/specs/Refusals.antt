@@ -1,6 +1,7 @@
 -- Refusals in order, and the sizes. Assumes nothing.
-use Prim.Native.Nat.{ℕ, zero, suc, _<_}
+use Prim.Native.Nat.{ℕ, zero, suc}
 use mathlib.Core.Bool.{Bool, true, false, _||_}
+use mathlib.Core.Path.{_≡_}
 use mathlib.Core.List.{List, [], _∷_}
 use lib.Dec.{ltb}
 use Rattle.figure.specs.declared.Sizes.{Sizes}
@@ -23,6 +24,11 @@ pick false a b = b
 abbrev pub firstOf : List Refusal → ℕ
 firstOf [] = 0
 firstOf (r ∷ rs) = pick (r .applies) (r .number) (firstOf rs)
+
+-- "0 if none does"
+abbrev pub NoneApplies : List Refusal → Type 0
+NoneApplies [] = Unit {0}
+NoneApplies (r ∷ rs) = (r .applies ≡ false) × NoneApplies rs
 
 -- a where nothing is refused, and else b
 unfoldable pub unless : {A : Type 0} → ℕ → A → A → A

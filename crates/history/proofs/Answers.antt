@@ -22,7 +22,8 @@ use Rattle.shape.specs.Turns.{actionAt}
 use Rattle.history.proofs.Addresses.{below-account}
 use Rattle.demands.proofs.Lengths.{length-account}
 use Rattle.history.proofs.LineLaws.{below-wider, tabled-memory, serial-laid}
-use Rattle.demands.proofs.Runs.{runMemory, runSteps, run-book}
+use Rattle.demands.proofs.Runs.{run-book}
+use Rattle.demands.specs.Demand.{runMemory, runSteps}
 use Rattle.history.proofs.Traces.{run-bytes-long, traced-records}
 use Rattle.history.proofs.Whole.{account-bytes, events-most, counts-are}
 use Rattle.lists.specs.Line.{lineWidth}

@@ -20,7 +20,8 @@ use Rattle.lists.proofs.Codecs.{line-lawful}
 use Rattle.lists.proofs.Rows.{length-rows}
 use Rattle.lists.proofs.Sized.{held}
 use Rattle.lists.proofs.Table.{length-memory}
-use Rattle.demands.proofs.Listed.{Listed, none, more, listed-account}
+use Rattle.demands.proofs.Listed.{listed-account}
+use Rattle.demands.specs.Demand.{Listed, none, more}
 use Rattle.history.proofs.Testing.{serial-more}
 use Rattle.lists.specs.Line.{lineWidth, lineAt}
 use Rattle.demands.specs.Lines.{itemRecord, itemLine, itemBytes, accountBytes}

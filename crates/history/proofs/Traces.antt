@@ -23,8 +23,8 @@ use Rattle.lists.proofs.Sized.{sized}
 use Rattle.lists.proofs.Table.{part-in, part-is}
 use Rattle.shape.specs.Fresh.{freshOf, freshRefused}
 use Rattle.shape.specs.Turns.{actionAt, bytesOf, turnsOf, FreshTurned}
-use Rattle.shape.proofs.Trails.{trace-alike, length-trace}
-use Rattle.demands.proofs.Runs.{fresh-taken}
+use Rattle.shape.proofs.Trails.{trace-alike}
+use Rattle.demands.proofs.Runs.{fresh-taken, length-run}
 use Rattle.history.specs.Pieces.{recordsBelow, Admitted}
 use Rattle.demands.specs.Run.{runFresh, runAction, runTrace}
 
@@ -34,20 +34,15 @@ unfolding recordsBelow thingsAt
 records-each bytes zero = refl
 records-each bytes (suc n) = rw (things-more recordCodec bytes 0 n, records-each bytes n, zero-add (recordWidth * n))
 
-module _ (list : List ℕ) where
-  pub run-long : length (runTrace list) ≡ readOf list .actions
-  unfolding runTrace
-  run-long = length-trace (runFresh list) (runAction list) (readOf list .actions)
-
-  pub run-bytes-long : length (rows recordBytes (runTrace list)) ≡ recordWidth * readOf list .actions
-  run-bytes-long = length-rows recordBytes recordWidth (λ r. refl) (runTrace list) ∙ ap (λ (n : ℕ). recordWidth * n) run-long
+pub run-bytes-long : (list : List ℕ) → length (rows recordBytes (runTrace list)) ≡ recordWidth * readOf list .actions
+run-bytes-long list = length-rows recordBytes recordWidth (λ r. refl) (runTrace list) ∙ ap (λ (n : ℕ). recordWidth * n) (length-run list)
 
 -- what the run reads back off the bytes that tracing left is the run's trace
 pub traced-records : (list t t′ : List ℕ) → t′ ≡ laid (rows recordBytes (runTrace list)) t → recordsBelow (actionAt t′) (readOf list .actions) ≡ runTrace list
 unfolding laid
 traced-records list t t′ e =
     records-each t′ (readOf list .actions)
-    ∙ rw (e, ← (run-long list))
+    ∙ rw (e, ← (length-run list))
     (things-rows record-lawful (runTrace list) (drop (length (rows recordBytes (runTrace list))) t))
 
 -- ---- tracing: the table's part is the list's memory, and the list's part holds its actions

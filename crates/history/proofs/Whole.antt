@@ -15,7 +15,8 @@ use Rattle.demands.specs.Lines.{accountBytes}
 use Rattle.demands.specs.Run.{runSizes, runTrace, runBook, acceptedIn, refusedIn, countsAs}
 use Rattle.demands.specs.declared.Counts.{Counts}
 use Rattle.demands.proofs.Lengths.{all-counted}
-use Rattle.demands.proofs.Runs.{runMemory, runSteps, run-events}
+use Rattle.demands.proofs.Runs.{run-events}
+use Rattle.demands.specs.Demand.{runMemory, runSteps}
 use Rattle.history.specs.Pieces.{recordsBelow, keysOf, orderOf, placedLine, Accounted}
 use Rattle.history.proofs.Bounds.{records-long}
 use Rattle.history.proofs.Built as built

@@ -14,6 +14,5 @@ pub mod Actions
 pub mod RoundTrip
 pub mod Walks
 pub mod Largest
-pub mod Unique
 -- a struct lent to a call, for the walks by hand
 pub mod Lent

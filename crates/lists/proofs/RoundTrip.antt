@@ -8,20 +8,19 @@ use lib.Seq.{take-at, take-all, take-add, drop-at, drop-drop}
 use borrow.Author.Tests.{le-ltb}
 use Rattle.figure.specs.declared.Sizes.{Sizes}
 use Rattle.figure.specs.declared.Record.{Record}
-use Rattle.figure.specs.Refusals.{firstOf, unless, sizesRefused, mostActions}
-use Rattle.figure.proofs.First.{NoneApplies, first-none, none-first, sizes-numbered, none-append, same-not}
-use Rattle.lists.specs.Bytes.{Bytes, wordWidth, u32At, u32Bytes, rows, laid}
+use Rattle.figure.specs.Refusals.{firstOf, unless, sizesRefused, mostActions, NoneApplies}
+use Rattle.figure.proofs.First.{none-first, sizes-numbered, none-append, same-not}
+use Rattle.lists.specs.Bytes.{Bytes, u32At, u32Bytes, rows, laid}
 use Rattle.lists.specs.Codec.{thingsAt, wordCodec}
 use Rattle.lists.specs.Record.{recordWidth, recordBytes, recordCodec}
 use Rattle.lists.specs.Read.{version, headerWidth, headerBytes, versionAt, sizesAt, afterHeader, afterMemory, bodyOf, listBytes, readRefused, readOf, takenAs, memoryOf, actionsOf, actionBytesOf}
-use Rattle.lists.specs.Write.{writeRefused, bytesWritten, Wrote}
+use Rattle.lists.specs.Write.{writeRefused, bytesWritten, Wrote, ListHolds, Rewritten}
 use Rattle.lists.specs.declared.reader.Layout.{Layout}
 use Rattle.lists.specs.declared.writer.Written.{Written}
 use Rattle.lists.proofs.Numbers.{number-back, number-bytes, four-at}
 use Rattle.lists.proofs.Codecs.{word-lawful, record-lawful}
 use Rattle.lists.proofs.Things.{things-drop, things-rows, rows-things, length-coded}
 use Rattle.lists.proofs.Table.{length-memory}
-use Rattle.lists.proofs.Refused.{partsRefused}
 use Rattle.lists.proofs.Sized.{none-taken, good}
 use Rattle.lists.proofs.Wire.{length-body, length-list, list-parts}
 use Rattle.lists.proofs.Wrote.{Writable, writable, write-accepts}
@@ -150,13 +149,6 @@ module _ (s : List ℕ) (taken : readOf s .number ≡ 0) where
 
 -- ---- the same of the contracts
 
--- a list that holds these sizes, this memory and these action bytes
-pub record ListHolds (s : List ℕ) (z : Sizes) (memory actions : List ℕ) : Type 0 where
-  pub taken : readOf s .number ≡ 0
-  pub sizes-are : readOf s .sizes ≡ z
-  pub memory-is : memoryOf s ≡ memory
-  pub action-bytes-are : actionBytesOf s ≡ actions
-
 pub list-holds : (z : Sizes) (memory actions : List ℕ) (room : ℕ) → firstOf (writeRefused z memory actions room) ≡ 0 → ListHolds (listBytes z memory actions) z memory actions
 unfolding listBytes bodyOf
 list-holds z memory actions room h =
@@ -196,12 +188,6 @@ module _ {z : Sizes} {memory actions out : List ℕ} {r : Written} {out′ : Lis
   -- "what the writer writes reads back the same"
   pub reads-back : r .number ≡ 0 → ListHolds (take (r .length) out′) z memory actions
   reads-back h = rw (front-written h) (list-holds z memory actions (length out) (sym (wrote .number-is) ∙ h))
-
--- "a list that the reader takes, read and written again, has the same bytes"
-pub record Rewritten (s out : List ℕ) (r : Written) (out′ : List ℕ) : Type 0 where
-  pub number-is : r .number ≡ 0
-  pub length-is : r .length ≡ length s
-  pub out-is : out′ ≡ laid s out
 
 pub writes-back : (s : List ℕ) → Bytes s → readOf s .number ≡ 0 → {out : List ℕ} {r : Written} {out′ : List ℕ} → length s ≤ length out → Wrote (readOf s .sizes) (memoryOf s) (actionBytesOf s) out r out′ → Rewritten s out r out′
 unfolding bytesWritten unless

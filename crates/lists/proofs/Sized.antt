@@ -1,19 +1,19 @@
 -- What the reader's number says of a list, and what a caller may use of one that it takes. Assumes nothing.
 use mathlib.Core.Path.{_≡_, refl, sym, ap, _∙_}
 use mathlib.Core.Bool.{Bool, true, false, _||_}
-use mathlib.Core.List.{List, [], _∷_, _++_}
+use mathlib.Core.List.{List}
 use Prim.Native.Nat.{ℕ, zero, suc, _+_, _-_, _*_, _/_, _%_, _≤_}
 use native.Mathlib.Omega.{arith}
 use lib.ListN.{length}
 use lib.Dec.{ltb}
 use borrow.Author.Tests.{ltb-false, eqb-true, not-false}
 use Rattle.figure.specs.declared.Sizes.{Sizes}
-use Rattle.figure.specs.Refusals.{Refusal, firstOf, outside, sizesRefused, mostEngines, mostAddresses, mostDepth, mostActions}
-use Rattle.figure.proofs.First.{Passed, testAt, refusalAt, first-at, Numbered, NoneApplies, first-none, none-first, sizes-numbered, numbered-append, none-split}
+use Rattle.figure.specs.Refusals.{firstOf, outside, sizesRefused, mostEngines, mostAddresses, mostDepth, mostActions, NoneApplies}
+use Rattle.figure.proofs.First.{Passed, testAt, refusalAt, first-at, Numbered, first-none, none-first, sizes-numbered, numbered-append, none-split}
 use Rattle.lists.specs.Bytes.{u32At}
 use Rattle.lists.specs.Record.{recordWidth}
 use Rattle.lists.specs.declared.reader.Layout.{Layout}
-use Rattle.lists.specs.Read.{version, headerWidth, versionAt, sizesAt, afterHeader, afterMemory, readRefused, takenAs, layoutOf, readOf}
+use Rattle.lists.specs.Read.{version, headerWidth, versionAt, sizesAt, afterHeader, afterMemory, readRefused, refusedAs, takenAs, layoutOf, readOf}
 
 -- ---- the reader refuses exactly if a rule of its list applies
 pub read-numbered : (s : List ℕ) → Numbered (readRefused s)
@@ -30,6 +30,15 @@ number-is (suc n) s = refl
 pub read-number : (s : List ℕ) → readOf s .number ≡ firstOf (readRefused s)
 unfolding readOf
 read-number s = number-is (firstOf (readRefused s)) s
+
+-- "all 0 on a refusal"
+pub read-refused : (s : List ℕ) (r : Layout) → r ≡ readOf s → ¬ (r .number ≡ 0) → r ≡ refusedAs (r .number)
+unfolding readOf layoutOf
+read-refused s r h n = at (firstOf (readRefused s)) h
+  where
+    at : (k : ℕ) → r ≡ layoutOf k s → r ≡ refusedAs (r .number)
+    at zero e = absurd (n (ap (λ (l : Layout). l .number) e))
+    at (suc k) e = e ∙ ap refusedAs (sym (ap (λ (l : Layout). l .number) e))
 
 pub read-first : (s : List ℕ) (k : ℕ) → Passed k (readRefused s) → testAt k (readRefused s) ≡ true → readOf s .number ≡ refusalAt k (readRefused s)
 read-first s k h e = read-number s ∙ first-at k (readRefused s) h e

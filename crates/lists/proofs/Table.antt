@@ -7,7 +7,7 @@ use native.Mathlib.Omega.{arith}
 use lib.ListN.{length, getD, take, set, replicate, length-append, length-replicate}
 use lib.Seq.{take-at}
 use Rattle.figure.specs.Refusals.{mostAddresses}
-use Rattle.lists.specs.Bytes.{wordWidth, u32At, padded}
+use Rattle.lists.specs.Bytes.{u32At, padded}
 use Rattle.lists.specs.Codec.{thingsAt, wordCodec}
 use Rattle.lists.specs.declared.reader.Layout.{Layout}
 use Rattle.lists.specs.Read.{readOf, memoryOf, memoryTable}

@@ -12,7 +12,7 @@ use Rattle.figure.specs.declared.Record.{Record}
 use Rattle.lists.specs.Bytes.{rows}
 use Rattle.lists.specs.Codec.{thingsAt}
 use Rattle.lists.specs.Read.{readRefused, readOf, layoutOf, actionsOf}
-use Rattle.lists.specs.Walk.{handed, WalkerTook}
+use Rattle.lists.specs.Walk.{handed, Took, WalkerTook, Calls, none, more, ahead, NoneLeft}
 use Rattle.lists.specs.declared.walker.Found.{Found}
 use Rattle.lists.specs.declared.walker.Found.the-variants.{Action, Nothing}
 use Rattle.lists.specs.declared.walker.Walker.{Walker}
@@ -20,14 +20,18 @@ use Rattle.figure.specs.Refusals.{firstOf}
 use Rattle.lists.proofs.Sized.{read-number}
 use Rattle.lists.proofs.Actions.{none-left}
 
--- calls of `next`, one after another, with what each found
-pub data Calls : Walker → List Found → Walker → Type 0 where
-  none : {w : Walker} → Calls w [] w
-  more : {w w′ e : Walker} {found : Found} {fs : List Found} → WalkerTook w found w′ → Calls w′ fs e → Calls w (found ∷ fs) e
+-- what is handed out says which case it was
+pub handed-same : (f g : Found) → handed f ≡ handed g → f ≡ g
+handed-same (Action r) (Action q) e = cc
+handed-same (Action r) Nothing e = let z : _≡_ {A = ℕ} 1 0 = ap length e in absurd (omega arith)
+handed-same Nothing (Action q) e = let z : _≡_ {A = ℕ} 0 1 = ap length e in absurd (omega arith)
+handed-same Nothing Nothing e = refl
 
--- the actions that a walker has not passed
-abbrev pub ahead : Walker → List Record
-ahead w = drop (w .place) (actionsOf (now (w .list)))
+-- two steps at one place take the same
+pub took-same : {s : List ℕ} {k : ℕ} {f g : Found} {a b : ℕ} → Took s k f a → Took s k g b → (f ≡ g) × (a ≡ b)
+took-same {s} {k} {f} {g} t u =
+    let e : f ≡ g = handed-same f g (t .found-is ∙ sym (u .found-is)) in
+    (e, t .after-is ∙ (ap (λ (x : Found). k + length (handed x)) e ∙ sym (u .after-is)))
 
 empty-front : (xs : List Record) → [] ≡ take 1 xs → xs ≡ []
 empty-front [] e = refl
@@ -67,11 +71,6 @@ place-counts (more {w} {w′} {e} {found} {fs} s c) =
 -- the walker that `start` makes hands out exactly the list's actions, in order, each once, however often `next` is called after the last
 pub all-actions : {w e : Walker} {fs : List Found} → Calls w fs e → w .place ≡ 0 → length (actionsOf (now (w .list))) ≤ length fs → rows handed fs ≡ actionsOf (now (w .list))
 all-actions {w} {e} {fs} c z h = hands-out c ∙ rw (z) (take-all (length fs) (actionsOf (now (w .list))) h)
-
--- "at or above their number none is left .. its place unchanged"
-pub record NoneLeft (w : Walker) (found : Found) (w′ : Walker) : Type 0 where
-  pub found-is : found ≡ Nothing
-  pub place-is : w′ .place ≡ w .place
 
 pub past-the-end : {w w′ : Walker} {found : Found} → WalkerTook w found w′ → length (actionsOf (now (w .list))) ≤ w .place → NoneLeft w found w′
 past-the-end {w} {w′} {found} s h = by-case found (s .took .found-is ∙ none-left (actionsOf (now (w .list))) (w .place) h) (s .took .after-is)

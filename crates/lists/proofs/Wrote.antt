@@ -6,12 +6,13 @@ use native.Mathlib.Omega.{arith}
 use lib.ListN.{length}
 use borrow.Author.Tests.{ltb-false, le-ltb, eqb-true, not-false}
 use Rattle.figure.specs.declared.Sizes.{Sizes}
-use Rattle.figure.specs.Refusals.{firstOf, unless, sizesRefused, mostAddresses, mostActions}
-use Rattle.figure.proofs.First.{Numbered, NoneApplies, first-none, none-first, sizes-numbered, numbered-append, none-append, none-split, same-not}
+use Rattle.figure.specs.Refusals.{firstOf, unless, sizesRefused, mostAddresses, mostActions, NoneApplies}
+use Rattle.figure.proofs.First.{Numbered, first-none, none-first, sizes-numbered, numbered-append, none-append, none-split, same-not}
 use Rattle.lists.specs.Bytes.{laid}
 use Rattle.lists.specs.Record.{recordWidth}
 use Rattle.lists.specs.Read.{headerWidth, listBytes}
-use Rattle.lists.specs.Write.{writeRefused, bytesWritten, Wrote}
+use Rattle.lists.specs.Write.{writeRefused, bytesWritten, Wrote, Unwritten}
+use Rattle.lists.specs.declared.writer.Written.{Written}
 use Rattle.lists.proofs.Refused.{partsRefused}
 use Rattle.lists.proofs.Sized.{InRange, in-range}
 use Rattle.lists.proofs.Put.{laid-none}
@@ -94,3 +95,12 @@ module _ (z : Sizes) (memory actions out : List ℕ) where
   wrote-all n out′ e en eo =
       let all : bytesWritten z memory actions (length out) ≡ listBytes z memory actions = rw (e) in
       record { number-is = sym e; length-is = rw (all) (en ∙ sym (length-list z memory actions)); out-is = rw (all) eo }
+
+-- and a refusal leaves the output as it came
+pub refused-write : {z : Sizes} {memory actions out : List ℕ} {r : Written} {out′ : List ℕ} → Wrote z memory actions out r out′ → ¬ (r .number ≡ 0) → Unwritten out r out′
+unfolding bytesWritten unless
+refused-write {z} {memory} {actions} {out} {r} {out′} h n = at (firstOf (writeRefused z memory actions (length out))) (h .number-is) (h .length-is) (h .out-is)
+  where
+    at : (k : ℕ) → r .number ≡ k → r .length ≡ length (unless k (listBytes z memory actions) []) → out′ ≡ laid (unless k (listBytes z memory actions) []) out → Unwritten out r out′
+    at zero e l o = absurd (n e)
+    at (suc k) e l o = record { length-is = l; out-stays = o ∙ laid-none out }

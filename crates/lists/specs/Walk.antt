@@ -29,3 +29,17 @@ pub record Took (s : List ℕ) (place : ℕ) (found : Found) (after : ℕ) : Typ
 pub record WalkerTook (w : Walker) (found : Found) (w′ : Walker) : Type 0 where
   pub list-is : w′ .list ≡ w .list
   pub took : Took (now (w .list)) (w .place) found (w′ .place)
+
+-- calls of `next`, one after another, with what each found
+pub data Calls : Walker → List Found → Walker → Type 0 where
+  none : {w : Walker} → Calls w [] w
+  more : {w w′ e : Walker} {found : Found} {fs : List Found} → WalkerTook w found w′ → Calls w′ fs e → Calls w (found ∷ fs) e
+
+-- the actions that a walker has not passed
+abbrev pub ahead : Walker → List Record
+ahead w = drop (w .place) (actionsOf (now (w .list)))
+
+-- "at or above their number none is left .. its place unchanged"
+pub record NoneLeft (w : Walker) (found : Found) (w′ : Walker) : Type 0 where
+  pub found-is : found ≡ Nothing
+  pub place-is : w′ .place ≡ w .place

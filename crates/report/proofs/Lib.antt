@@ -1,3 +1,4 @@
+pub mod Bench
 pub mod Written
 pub mod Digits
 pub mod Series

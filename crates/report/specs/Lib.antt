@@ -4,3 +4,4 @@ pub mod Decimal
 pub mod Hex
 pub mod Events
 pub mod Actions
+pub mod Bench

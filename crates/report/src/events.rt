@@ -10,6 +10,7 @@ use crate::text::put_letter;
 use crate::text::put_newline;
 use demands::Counts;
 use figure::Record;
+use figure::WriteNumber;
 use figure::least;
 use lists::line::LINE;
 use lists::line::NO_NUMBER;
@@ -18,14 +19,14 @@ use lists::reader::MOST_ACTIONS;
 
 const READ: u8 = 1;
 
-fn put_mark(out: &mut [u8], at: usize, mark: u32) -> usize
-    requires { ⌜ Room at (markField mark) ⌝ }
-    ensures { λ r. ⌜ Printed (markField mark) (now (out .entry)) at r (now (out .exit)) ⌝ }
+fn put_mark(out: &mut [u8], at: usize, mark: WriteNumber) -> usize
+    requires { ⌜ Room at (markField (mark .0)) ⌝ }
+    ensures { λ r. ⌜ Printed (markField (mark .0)) (now (out .entry)) at r (now (out .exit)) ⌝ }
 {
-    if mark == NO_NUMBER {
+    if mark.0 == NO_NUMBER {
         return put_letter(out, at, b'-');
     }
-    put_field(out, at, mark as u64)
+    put_field(out, at, mark.0 as u64)
 }
 
 fn put_kind(out: &mut [u8], at: usize, kind: u8) -> usize
@@ -55,7 +56,7 @@ fn put_account_line(out: &mut [u8], at: usize, account: &[u8], k: usize) -> usiz
 {
     let l = line_at(account, LINE * k);
     let mark_at = put_decimal(out, at, k as u64 + 1);
-    let event_at = put_mark(out, mark_at, l.number.0);
+    let event_at = put_mark(out, mark_at, l.number);
     let event = l.event;
     put_event(out, event_at, event)
 }

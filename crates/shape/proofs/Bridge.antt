@@ -10,18 +10,20 @@ use lib.ListN.{length, getD, List·getD-append}
 use borrow.Author.Tests.{eqb-true, eqb-false, eq-eqb, ne-eqb, ltb-true}
 use Rattle.figure.specs.Account.{refused, event}
 use Rattle.figure.specs.Event.{eventView}
-use Rattle.figure.specs.Figure.{Step, R, fresh, accepted, next, step}
+use Rattle.figure.specs.Figure.{Step, R, fresh, accepted, step}
 use Rattle.figure.specs.Refusals.{pick, firstOf, mostEngines, mostAddresses}
 use Rattle.figure.specs.declared.Record.{Record}
 use Rattle.figure.specs.declared.Sizes.{Sizes}
-use Rattle.figure.proofs.Respects.{Agrees, agrees-refl}
-use Rattle.shape.proofs.Accepts.{turn-accepted}
-use Rattle.shape.proofs.Kept.{sound-parts}
+use Rattle.figure.proofs.Respects.{agrees-refl}
+use Rattle.figure.specs.Agree.{Agrees}
+use Rattle.shape.proofs.Exactly.{turn-accepted}
+use Rattle.shape.proofs.Kept.{sound-parts, keeps-sound, keeps-sizes}
 use Rattle.shape.proofs.Next.{next-agrees, event-agrees}
 use Rattle.shape.proofs.Numbers.{form-number, turn-number}
 use Rattle.shape.proofs.Places.{getD-replicate-each}
-use Rattle.shape.proofs.Shaped.{Shaped}
+use Rattle.shape.specs.Shaped.{Shaped}
 use Rattle.shape.proofs.Taken.{asked, Answers, takes, keeps, answers}
+use Rattle.shape.specs.Demand.{Steps, Meets}
 use Rattle.shape.specs.Fresh.{freshOf, emptyCache, emptyOut, emptyIn}
 use Rattle.shape.specs.Parts.{outOf, inOf, cachedValue, noOut, noIn, noCache}
 use Rattle.shape.specs.Sound.{soundOf}
@@ -79,22 +81,20 @@ module _ (s : Store) (h : soundOf s ≡ true) (g : Shaped s) (x : Record) where
   pub tells : eventView (traced (stepped s x)) ≡ pick (accepted (s .sizes) (view s) (stepView (s .sizes) x)) (event (view s) (stepView (s .sizes) x)) refused
   tells = answer-event (answers s x) (stepView (s .sizes) x) taken-view accepts
 
-  -- ---- of a well-formed record
+  -- "a well-formed step"
+  pub demand-2 : firstOf (formRefused (s .sizes) x) ≡ 0 → Steps s x (stepped s x)
+  demand-2 f =
+      let v = formed-view (s .sizes) x f in
+      record {
+        exactly = accepts-formed f;
+        next-state = λ e. let a = sym (accepts-formed f) ∙ eq-eqb (stepped s x .number) 0 e in rw (v, a) at steps;
+        value = rw (v) at tells;
+        sizes-kept = keeps-sizes s x;
+        sound-kept = keeps-sound s x h;
+      }
 
-  module _ (f : firstOf (formRefused (s .sizes) x) ≡ 0) where
-    -- 0 exactly if the figure allows the step, its numbers are in range and there is room
-    pub formed-accepts : eqb (stepped s x .number) 0 ≡ accepted (s .sizes) (view s) (actionOf x)
-    formed-accepts = accepts-formed f
-
-    -- the next state
-    pub formed-next : stepped s x .number ≡ 0 → Agrees (s .sizes) (view (stepped s x .store)) (next (view s) (actionOf x))
-    formed-next e =
-        let a : accepted (s .sizes) (view s) (actionOf x) ≡ true = sym formed-accepts ∙ eq-eqb (stepped s x .number) 0 e in
-        rw (formed-view (s .sizes) x f, a) at steps
-
-    -- the event
-    pub formed-tells : eventView (traced (stepped s x)) ≡ pick (accepted (s .sizes) (view s) (actionOf x)) (event (view s) (actionOf x)) refused
-    formed-tells = rw (formed-view (s .sizes) x f) at tells
+pub meets : Meets stepped
+meets s x g h f = demand-2 s h g x f
 
 -- ---- "A fresh store has the given memory, empty caches and empty queues."
 

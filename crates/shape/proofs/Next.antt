@@ -17,11 +17,12 @@ use Rattle.figure.specs.Refusals.{pick, mostEngines, mostAddresses}
 use Rattle.figure.specs.declared.Record.{Record}
 use Rattle.figure.specs.declared.Sizes.{Sizes}
 use Rattle.figure.proofs.Laws.{and-right, upd-one}
-use Rattle.figure.proofs.Respects.{Alike, Agrees, agrees-refl}
-use Rattle.shape.proofs.Accepts.{out-fits, in-fits}
+use Rattle.figure.proofs.Respects.{agrees-refl}
+use Rattle.figure.specs.Agree.{Alike, Agrees}
+use Rattle.shape.proofs.Exactly.{out-fits, in-fits}
 use Rattle.shape.proofs.Kept.{Sound, ranged, oldest-sound, oldest-in-sound}
 use Rattle.shape.proofs.Places.{getD-change-same, getD-change-other, getD-firsts-below, map-end, out-with, in-with}
-use Rattle.shape.proofs.Shaped.{Shaped, CacheShaped}
+use Rattle.shape.specs.Shaped.{Shaped, CacheShaped}
 use Rattle.shape.proofs.Taken.{Goes, goes-R, goes-W, goes-MW, goes-MR, goes-CU, goes-CI}
 use Rattle.shape.specs.Parts.{change, outOf, outJoined, outLeft, inOf, inJoined, inLeft, cached, dropped, cachedValue, noOutEntry, noInEntry, noOut, noIn, noCache}
 use Rattle.shape.specs.Step.{outAt, inAt, cacheAt, memoryAt, outEntry, inEntry, oldestOut, oldestIn, effect, eventOf}

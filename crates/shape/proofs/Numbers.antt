@@ -6,12 +6,13 @@ use Prim.Native.Nat.{ℕ, zero, suc}
 use native.Mathlib.Omega.{arith}
 use lib.Dec.{eqb}
 use borrow.Author.Tests.{eqb-true, eqb-false}
-use Rattle.figure.specs.Refusals.{firstOf}
+use Rattle.figure.specs.Refusals.{firstOf, NoneApplies}
 use Rattle.figure.specs.declared.Record.{Record}
 use Rattle.figure.specs.declared.Sizes.{Sizes}
-use Rattle.figure.proofs.First.{NoneApplies, Passed, testAt, refusalAt, none-first, first-none, first-at, first-append, first-front}
+use Rattle.figure.proofs.First.{Passed, testAt, refusalAt, none-first, first-none, first-at, first-append, first-front}
 use Rattle.shape.proofs.Kept.{fresh-numbered, fresh-short, fresh-sound, zeros-unsound}
-use Rattle.shape.proofs.Shaped.{Shaped, fresh-shaped}
+use Rattle.shape.proofs.Shaped.{fresh-shaped}
+use Rattle.shape.specs.Shaped.{Shaped}
 use Rattle.shape.proofs.Taken.{form-numbered, step-numbered}
 use Rattle.shape.specs.Fresh.{freshOf, zeros, freshRefused, made, madeAs}
 use Rattle.shape.specs.Sound.{soundOf}

@@ -16,7 +16,8 @@ use Rattle.shape.proofs.Kept.{Sound, sound-parts, ranged}
 use Rattle.shape.proofs.Places.{any-getD, length-change, at-change, length-firsts, at-firsts, length-over, length-tail-le}
 use Rattle.shape.proofs.Taken.{Goes, goes-R, goes-W, goes-MW, goes-MR, goes-CU, goes-CI, Answers, takes, keeps, answers}
 use Rattle.shape.specs.Fresh.{freshOf, emptyOut, emptyIn, emptyCache}
-use Rattle.shape.specs.Parts.{any, over, change, firsts, full, outJoined, outLeft, inJoined, inLeft, cached, dropped, noOut, noIn, noCache}
+use Rattle.shape.specs.Parts.{any, over, change, firsts, full, outJoined, outLeft, inJoined, inLeft, cached, dropped, noIn}
+use Rattle.shape.specs.Shaped.{Array, CacheShaped, OutShaped, InShaped, Shaped}
 use Rattle.shape.specs.Step.{outAt, inAt, cacheAt, oldestOut, effect, stepped}
 use Rattle.shape.specs.declared.Cache.{Cache}
 use Rattle.shape.specs.declared.InEntry.{InEntry}
@@ -25,27 +26,6 @@ use Rattle.shape.specs.declared.OutEntry.{OutEntry}
 use Rattle.shape.specs.declared.OutQueue.{OutQueue}
 use Rattle.shape.specs.declared.Stepped.{Stepped}
 use Rattle.shape.specs.declared.Store.{Store}
-
--- an array of n places, with P at each
-pub record Array {A : Type 0} (n : ℕ) (d : A) (P : A → Type 0) (l : List A) : Type 0 where
-  pub long : length l ≡ n
-  pub each : (k : ℕ) → k < n → P (getD l k d)
-
-pub record CacheShaped (c : Cache) : Type 0 where
-  pub present : length (c .present) ≡ mostAddresses
-  pub «data» : length (c .«data») ≡ mostAddresses
-
-pub record OutShaped (q : OutQueue) : Type 0 where
-  pub entries : length (q .entries) ≡ mostDepth
-
-pub record InShaped (q : InQueue) : Type 0 where
-  pub entries : length (q .entries) ≡ mostDepth
-
-pub record Shaped (s : Store) : Type 0 where
-  pub memory : length (s .memory) ≡ mostAddresses
-  pub caches : Array mostEngines noCache CacheShaped (s .caches)
-  pub outs : Array mostEngines noOut OutShaped (s .outs)
-  pub ins : Array mostEngines noIn InShaped (s .ins)
 
 module _ {A : Type 0} {n : ℕ} {d : A} {P : A → Type 0} where
   array-change : {l : List A} (k : ℕ) (f : A → A) → Array n d P l → k < n → P (f (getD l k d)) → Array n d P (change k f l)

@@ -7,10 +7,10 @@ use lib.Dec.{eqb, ltb}
 use borrow.Author.Tests.{ltb-false, leb-false, eqb-true, eqb-false, not-false}
 use Rattle.figure.specs.Figure.{Step, R, W, MW, MR, CU, CI}
 use Rattle.figure.specs.Record.{noRecord}
-use Rattle.figure.specs.Refusals.{firstOf, outside}
+use Rattle.figure.specs.Refusals.{firstOf, outside, NoneApplies}
 use Rattle.figure.specs.declared.Record.{Record}
 use Rattle.figure.specs.declared.Sizes.{Sizes}
-use Rattle.figure.proofs.First.{NoneApplies, Numbered, none-first, none-split}
+use Rattle.figure.proofs.First.{Numbered, none-first, none-split}
 use Rattle.figure.proofs.Laws.{and-left, and-right}
 use Rattle.shape.proofs.Places.{or-right}
 use Rattle.shape.specs.Parts.{ownWaits, inCache}

@@ -1,12 +1,18 @@
 -- Many steps of a store are a run over a list: its trace record by record, and actions that are alike leave one store and one trace. Assumes nothing.
 use mathlib.Core.Path.{_≡_, refl, sym, ap, _∙_}
-use Prim.Native.Nat.{ℕ, _<_}
+use mathlib.Core.List.{List, []}
+use Prim.Native.Nat.{ℕ, zero, suc, _<_}
 use lib.ListN.{length, getD}
+use Rattle.figure.specs.Refusals.{firstOf, unless}
 use Rattle.figure.specs.declared.Record.{Record}
+use Rattle.figure.specs.declared.Sizes.{Sizes}
 use Rattle.figure.proofs.Machines.{runs, tape, below, below-alike, built-long, built-at, by-number}
+use Rattle.lists.proofs.Put.{laid-none}
+use Rattle.lists.specs.Bytes.{laid}
+use Rattle.shape.specs.Fresh.{freshRefused}
 use Rattle.shape.specs.Step.{stepped}
 use Rattle.shape.specs.Trace.{traced}
-use Rattle.shape.specs.Turns.{storeAfter, traceAfter}
+use Rattle.shape.specs.Turns.{storeAfter, traceAfter, FreshTurned}
 use Rattle.shape.specs.declared.Store.{Store}
 
 -- the store as a machine
@@ -42,3 +48,12 @@ module _ (s : Store) (x y : ℕ → Record) (n : ℕ) (same : (k : ℕ) → k < 
 
   pub trace-alike : traceAfter s x n ≡ traceAfter s y n
   trace-alike = trace-trail s x n ∙ (ap (tape next-store next-record s) (below-alike x y n same) ∙ sym (trace-trail s y n))
+
+-- many turns that are refused, since there is no such store, leave the trace as it came
+pub refused-turns : {z : Sizes} {table actions trace : List ℕ} {r : ℕ} {trace′ : List ℕ} → FreshTurned z table actions trace r trace′ → ¬ (r ≡ 0) → trace′ ≡ trace
+unfolding unless
+refused-turns {z} {table} {actions} {trace} {r} {trace′} h n = at (firstOf (freshRefused z table)) (h .number) _ (h .trace-is)
+  where
+    at : (k : ℕ) → r ≡ k → (t : List ℕ) → trace′ ≡ laid (unless k t []) trace → trace′ ≡ trace
+    at zero e t q = absurd (n e)
+    at (suc k) e t q = q ∙ laid-none trace

@@ -17,6 +17,7 @@ use Rattle.shape.proofs.Places.{getD-change-other, getD-firsts-above, g
 use Rattle.shape.proofs.Taken.{Goes, goes-R, goes-W, goes-MW, goes-MR, goes-CU, goes-CI, Answers, takes, keeps, answers}
 use Rattle.shape.specs.Parts.{change, firsts, outOf, outJoined, outLeft, inOf, inJoined, inLeft, cached, dropped, noOutEntry, noInEntry, noOut, noIn, noCache}
 use Rattle.shape.specs.Step.{outAt, inAt, cacheAt, memoryAt, outEntry, inEntry, oldestOut, oldestIn, effect, stepped}
+use Rattle.shape.specs.Unused.{OutPast, InPast, CachePast, UnusedKept}
 use Rattle.shape.specs.declared.Cache.{Cache}
 use Rattle.shape.specs.declared.InEntry.{InEntry}
 use Rattle.shape.specs.declared.InQueue.{InQueue}
@@ -24,28 +25,6 @@ use Rattle.shape.specs.declared.OutEntry.{OutEntry}
 use Rattle.shape.specs.declared.OutQueue.{OutQueue}
 use Rattle.shape.specs.declared.Stepped.{Stepped}
 use Rattle.shape.specs.declared.Store.{Store}
-
--- q before and p after: entries past the length after the step stand as they stood
-pub record OutPast (q p : OutQueue) : Type 0 where
-  pub entries : (j : ℕ) → p .len ≤ j → getD (p .entries) j noOutEntry ≡ getD (q .entries) j noOutEntry
-
-pub record InPast (q p : InQueue) : Type 0 where
-  pub entries : (j : ℕ) → p .len ≤ j → getD (p .entries) j noInEntry ≡ getD (q .entries) j noInEntry
-
--- c before and d after: places at addresses from m on
-pub record CachePast (m : ℕ) (c d : Cache) : Type 0 where
-  pub present : (a : ℕ) → m ≤ a → getD (d .present) a false ≡ getD (c .present) a false
-  pub «data» : (a : ℕ) → m ≤ a → getD (d .«data») a 0 ≡ getD (c .«data») a 0
-
--- s before and r after; engine suc k stands at place k, so its number is above the count from the engine count on
-pub record UnusedKept (s r : Store) : Type 0 where
-  pub out-entries : (k : ℕ) → OutPast (outAt s (suc k)) (outAt r (suc k))
-  pub in-entries : (k : ℕ) → InPast (inAt s (suc k)) (inAt r (suc k))
-  pub cache-places : (k : ℕ) → CachePast (s .sizes .addresses) (cacheAt s (suc k)) (cacheAt r (suc k))
-  pub memory : (a : ℕ) → s .sizes .addresses ≤ a → memoryAt r a ≡ memoryAt s a
-  pub outs : (k : ℕ) → s .sizes .engines ≤ k → outAt r (suc k) ≡ outAt s (suc k)
-  pub ins : (k : ℕ) → s .sizes .engines ≤ k → inAt r (suc k) ≡ inAt s (suc k)
-  pub caches : (k : ℕ) → s .sizes .engines ≤ k → cacheAt r (suc k) ≡ cacheAt s (suc k)
 
 -- ---- one part
 

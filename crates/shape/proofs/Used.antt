@@ -16,11 +16,12 @@ use Rattle.figure.proofs.Laws.{and-right, each}
 use Rattle.shape.proofs.Kept.{Ranged, sizes-ranged, Sound, sound-parts, ranged, oldest-sound, oldest-in-sound}
 use Rattle.shape.proofs.Numbers.{unsound-number, form-number, turn-number}
 use Rattle.shape.proofs.Places.{all-same, any-same, getD-change-same, getD-change-other, getD-firsts-below, out-with, in-with}
-use Rattle.shape.proofs.Shaped.{Array, CacheShaped, Shaped}
+use Rattle.shape.specs.Shaped.{Array, CacheShaped, Shaped}
 use Rattle.shape.proofs.Taken.{action, Asks, asks-R, asks-W, asks-MW, asks-MR, asks-CU, asks-CI, asked, Goes, goes-R, goes-W, goes-MW, goes-MR, goes-CU, goes-CI, Answers, takes, keeps, answers}
 use Rattle.shape.specs.Parts.{any, all, change, firsts, full, outOf, outJoined, outLeft, inOf, inJoined, inLeft, cached, dropped, noOutEntry, noInEntry, noOut, noIn, noCache}
 use Rattle.shape.specs.Sound.{soundSizes, soundOutEntry, soundInEntry, soundOut, soundIn, soundOf}
 use Rattle.shape.specs.Step.{outAt, inAt, cacheAt, memoryAt, outEntry, inEntry, oldestOut, oldestIn, formRefused, turnRefused, effect, eventOf, filled, withIns, published, updated, stepped}
+use Rattle.shape.specs.Unused.{SameOut, SameIn, SameCache, SameParts, SameUsed, SameAnswer}
 use Rattle.shape.specs.declared.Cache.{Cache}
 use Rattle.shape.specs.declared.InEntry.{InEntry}
 use Rattle.shape.specs.declared.InQueue.{InQueue}
@@ -28,31 +29,6 @@ use Rattle.shape.specs.declared.OutEntry.{OutEntry}
 use Rattle.shape.specs.declared.OutQueue.{OutQueue}
 use Rattle.shape.specs.declared.Stepped.{Stepped}
 use Rattle.shape.specs.declared.Store.{Store}
-
--- ---- the used places: the first entries of a queue and how many they are, a cache's addresses below m and the values of those present
-
-pub record SameOut (q p : OutQueue) : Type 0 where
-  pub len : q .len ≡ p .len
-  pub held : outOf q ≡ outOf p
-
-pub record SameIn (q p : InQueue) : Type 0 where
-  pub len : q .len ≡ p .len
-  pub held : inOf q ≡ inOf p
-
-pub record SameCache (m : ℕ) (c d : Cache) : Type 0 where
-  pub present : (a : ℕ) → a < m → getD (c .present) a false ≡ getD (d .present) a false
-  pub «data» : (a : ℕ) → a < m → getD (c .present) a false ≡ true → getD (c .«data») a 0 ≡ getD (d .«data») a 0
-
--- memory below m, and the parts of the engines 1 to n; engine suc k stands at place k
-pub record SameParts (z : Sizes) (s r : Store) : Type 0 where
-  pub memory : (a : ℕ) → a < z .addresses → memoryAt s a ≡ memoryAt r a
-  pub caches : (k : ℕ) → k < z .engines → SameCache (z .addresses) (cacheAt s (suc k)) (cacheAt r (suc k))
-  pub outs : (k : ℕ) → k < z .engines → SameOut (outAt s (suc k)) (outAt r (suc k))
-  pub ins : (k : ℕ) → k < z .engines → SameIn (inAt s (suc k)) (inAt r (suc k))
-
-pub record SameUsed (s r : Store) : Type 0 where
-  pub sizes : s .sizes ≡ r .sizes
-  pub parts : SameParts (s .sizes) s r
 
 -- ---- sound or not
 
@@ -241,12 +217,6 @@ module _ (s r : Store) (b : Ranged (s .sizes)) (g : Shaped s) (u : Shaped r) (e 
   event-same (goes-CI k c) = refl
 
 -- ---- the answers
-
--- the same number and event, and stores that are the same in their used places
-pub record SameAnswer (t u : Stepped) : Type 0 where
-  pub number : t .number ≡ u .number
-  pub event : t .event ≡ u .event
-  pub store : SameUsed (t .store) (u .store)
 
 module _ (s r : Store) (g : Shaped s) (u : Shaped r) (e : SameParts (s .sizes) s r) (x : Record) where
   number-same : stepped s x .number ≡ stepped (sized (s .sizes) r) x .number

@@ -6,3 +6,8 @@ pub mod Step
 pub mod Trace
 pub mod Turns
 pub mod View
+pub mod Shaped
+pub mod Unused
+pub mod Demand
+pub mod Case
+pub mod Cases

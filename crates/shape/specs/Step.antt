@@ -1,5 +1,5 @@
 -- The step: its refusals in the table's order, its effect and its event. Assumes nothing.
-use mathlib.Core.Bool.{Bool, true, false, not, _&&_, _||_}
+use mathlib.Core.Bool.{Bool, not, _&&_, _||_}
 use mathlib.Core.List.{List, [], _∷_, _++_}
 use Prim.Native.Nat.{ℕ, zero, suc, pred}
 use lib.Dec.{eqb, leb}

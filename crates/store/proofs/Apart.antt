@@ -19,10 +19,10 @@ use Rattle.shape.specs.declared.InQueue.{InQueue}
 use Rattle.shape.specs.declared.OutEntry.{OutEntry}
 use Rattle.shape.specs.declared.OutQueue.{OutQueue}
 use Rattle.shape.specs.declared.Store.{Store}
-use Rattle.shape.proofs.Accepts.{out-fits, in-fits}
+use Rattle.shape.proofs.Exactly.{out-fits, in-fits}
 use Rattle.shape.proofs.Kept.{Sound, ranged}
 use Rattle.shape.proofs.Places.{length-change, getD-change-same, getD-change-other, getD-firsts-below, getD-firsts-above, out-with, in-with}
-use Rattle.shape.proofs.Shaped.{Shaped}
+use Rattle.shape.specs.Shaped.{Shaped}
 use Rattle.decide.specs.Effect.{between, movedOut, leftIn, movedIns, Seen}
 use Rattle.decide.specs.Move.{toMemory}
 use Rattle.decide.specs.declared.Look.{Look}

@@ -5,5 +5,3 @@ pub mod Deciding
 pub mod Rings
 pub mod Apart
 pub mod Turning
--- what each contract decides
-pub mod Unique

@@ -27,7 +27,8 @@ use Rattle.shape.specs.declared.Stepped.{Stepped}
 use Rattle.shape.specs.declared.Store.{Store}
 use Rattle.shape.proofs.Kept.{sound-parts, keeps-sound, keeps-sizes}
 use Rattle.shape.proofs.Places.{getD-replicate-each}
-use Rattle.shape.proofs.Shaped.{Shaped, keeps-shaped, fresh-shaped}
+use Rattle.shape.proofs.Shaped.{keeps-shaped, fresh-shaped}
+use Rattle.shape.specs.Shaped.{Shaped}
 use Rattle.shape.proofs.Trails.{length-trace}
 use Rattle.decide.specs.Effect.{leftIn, movedCache, moved, done, Seen}
 use Rattle.decide.specs.Move.{storedAs, heldAs, cachedAs, moveOf}

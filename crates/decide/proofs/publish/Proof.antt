@@ -1,5 +1,4 @@
 -- `decide::publish` meets its contract. Assumes nothing.
-use borrow.Author.Tests.{eq-eqb, ne-eqb}
 use borrow.Author.Needs.{needs}
 use Rattle.decide.proofs.publish.Statement.{statement}
 use Rattle.decide.proofs.publish.Tie as tie
@@ -8,13 +7,13 @@ refuse-requires : tie.Need-refuse-requires
 refuse-requires c κs = search needs
 
 returns : tie.Need-returns
-returns c = rw (eq-eqb _ _ (c .before .if1 .taken)) (c .refuse .ensures)
+returns c = rw (c .before .if1 .taken) (c .refuse .ensures)
 
 refuse-requires-2 : tie.Need-refuse-requires-2
 refuse-requires-2 c κs = search needs
 
 returns-2 : tie.Need-returns-2
-returns-2 c = rw (ne-eqb _ _ (c .before .before .if1 .left), c .before .if2 .taken) (c .refuse2 .ensures)
+returns-2 c = rw (c .before .before .if1 .left, c .before .if2 .taken) (c .refuse2 .ensures)
 
 entry-of-requires : tie.Need-entry-of-requires
 entry-of-requires c κs = search needs
@@ -32,7 +31,7 @@ cast-m : tie.Need-cast-m
 cast-m c = search needs
 
 returns-3 : tie.Need-returns-3
-returns-3 c = rw (c .before .accept .ensures, c .before .before .entry-of2 .ensures, c .before .before .before .fill .ensures, c .before .before .before .before .entry-of .ensures, ne-eqb _ _ (c .before .before .before .before .before .before .before .if1 .left), c .before .before .before .before .before .before .if2 .left)
+returns-3 c = rw (c .before .accept .ensures, c .before .before .entry-of2 .ensures, c .before .before .before .fill .ensures, c .before .before .before .before .entry-of .ensures, c .before .before .before .before .before .before .before .if1 .left, c .before .before .before .before .before .before .if2 .left)
 
 pub publish-spec : {M : Type 1} → statement M
 publish-spec =

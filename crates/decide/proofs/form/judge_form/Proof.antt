@@ -21,23 +21,29 @@ returns-2 c = rw (← (c .before .before .before .is-outside .ensures), c .befor
 address-outside-requires : tie.Need-address-outside-requires
 address-outside-requires c κs = search needs
 
+fields-right-requires : tie.Need-fields-right-requires
+fields-right-requires c κs = search needs
+
 returns-3 : tie.Need-returns-3
 unfolding formRefused
 returns-3 c =
-    rw (← (c .before .before .before .before .before .is-outside .ensures), c .before .before .before .before .if1 .left, ← (c .before .before .before .is-outside2 .ensures), c .before .before .if2 .left, ← (c .before .address-outside .ensures), c .if3 .taken)
-
-fields-right-requires : tie.Need-fields-right-requires
-fields-right-requires c κs = search needs
+    let f = c .before in
+    let e = f .before .before in
+    rw (← (e .before .before .before .is-outside .ensures), e .before .before .if1 .left, ← (e .before .is-outside2 .ensures), e .if2 .left, ← (f .before .address-outside .ensures), ← (f .fields-right .ensures), c .if3 .taken)
 
 returns-4 : tie.Need-returns-4
 unfolding formRefused
 returns-4 c =
-    rw (← (c .before .before .before .before .before .before .before .is-outside .ensures), c .before .before .before .before .before .before .if1 .left, ← (c .before .before .before .before .before .is-outside2 .ensures), c .before .before .before .before .if2 .left, ← (c .before .before .before .address-outside .ensures), c .before .before .if3 .left, ← (c .before .fields-right .ensures), c .if4 .taken)
+    let f = c .before .before in
+    let e = f .before .before in
+    rw (← (e .before .before .before .is-outside .ensures), e .before .before .if1 .left, ← (e .before .is-outside2 .ensures), e .if2 .left, ← (f .before .address-outside .ensures), ← (f .fields-right .ensures), c .before .if3 .left, c .if4 .taken)
 
 returns-5 : tie.Need-returns-5
 unfolding formRefused
 returns-5 c =
-    rw (← (c .before .before .before .before .before .before .before .is-outside .ensures), c .before .before .before .before .before .before .if1 .left, ← (c .before .before .before .before .before .is-outside2 .ensures), c .before .before .before .before .if2 .left, ← (c .before .before .before .address-outside .ensures), c .before .before .if3 .left, ← (c .before .fields-right .ensures), c .if4 .left)
+    let f = c .before .before in
+    let e = f .before .before in
+    rw (← (e .before .before .before .is-outside .ensures), e .before .before .if1 .left, ← (e .before .is-outside2 .ensures), e .if2 .left, ← (f .before .address-outside .ensures), ← (f .fields-right .ensures), c .before .if3 .left, c .if4 .left)
 
 pub judge-form-spec : {M : Type 1} → statement M
 judge-form-spec =
@@ -48,7 +54,7 @@ judge-form-spec =
     is-outside-requires-2
     returns-2
     address-outside-requires
-    returns-3
     fields-right-requires
+    returns-3
     returns-4
     returns-5)

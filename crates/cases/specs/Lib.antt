@@ -1,2 +1,0 @@
-pub mod Case
-pub mod Cases
