@@ -206,8 +206,5 @@ pub fn answer(input: &[u8]) -> String {
     let (chunks, cut_short) = chunks::split(input);
     let fitting = chunks.iter().take_while(|chunk| chunk.len() <= HANDED).count();
     text.extend(chunks[..fitting].iter().map(|chunk| answer_one(chunk)));
-    if cut_short || fitting < chunks.len() {
-        text += "cut short\n";
-    }
-    text
+    text + chunks::end_text(cut_short || fitting < chunks.len())
 }

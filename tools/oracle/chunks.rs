@@ -39,11 +39,37 @@ pub fn replay_one(chunk: &[u8]) -> String {
     format!("{}trace {:016x}\n", run::answer(given), fnv(&trace))
 }
 
+/// What is printed after the last chunk that is whole.
+pub fn end_text(cut_short: bool) -> &'static str {
+    if cut_short {
+        "cut short\n"
+    } else {
+        ""
+    }
+}
+
 pub fn replay(input: &[u8]) -> String {
     let (chunks, cut_short) = split(input);
-    let mut text: String = chunks.iter().map(|chunk| replay_one(chunk)).collect();
-    if cut_short {
-        text += "cut short\n";
+    chunks.iter().map(|chunk| replay_one(chunk)).collect::<String>() + end_text(cut_short)
+}
+
+/// What stands before each trace line of what `replay` printed, and what stands after the last one.
+pub fn split_printed(printed: &[u8]) -> (Vec<&[u8]>, &[u8]) {
+    let mut accounts = Vec::new();
+    let (mut part_begin, mut line_begin) = (0, 0);
+    for line in printed.split_inclusive(|byte| *byte == b'\n') {
+        let line_end = line_begin + line.len();
+        if is_trace_line(line) {
+            accounts.push(&printed[part_begin..line_begin]);
+            part_begin = line_end;
+        }
+        line_begin = line_end;
     }
-    text
+    (accounts, &printed[part_begin..])
+}
+
+/// Anything else stays in its part, where it is no line of an account.
+fn is_trace_line(line: &[u8]) -> bool {
+    let hash = line.strip_prefix(b"trace ").and_then(|rest| rest.strip_suffix(b"\n"));
+    hash.is_some_and(|hash| hash.len() == 16 && hash.iter().all(u8::is_ascii_hexdigit))
 }

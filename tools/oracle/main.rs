@@ -1,6 +1,7 @@
 //! The independent program: all that the proved programs print, written from document 01 alone.
 
 mod account;
+mod bad_accounts;
 mod buffers;
 mod cases;
 mod chunks;
@@ -21,6 +22,7 @@ mod stretched;
 mod whole;
 mod xml;
 
+use judge::{Tally, Verdict};
 use std::io::{Read, Write};
 use std::process::ExitCode;
 
@@ -29,6 +31,7 @@ const USAGE: &str = "usage: oracle COMMAND
   show                       a list on standard input: what 'show' prints
   replay                     chunks on standard input: what 'replay' prints
   judge LIST                 an account on standard input: is it one for this list file?
+  judge-replay CHUNKS-FILE   what 'replay' printed for this file on standard input: is each account one for its list?
   generate SEED COUNT [cut]  chunks of a seed; with 'cut', one more that is cut short
   load SEED LISTS ACTIONS    chunks of sound lists with this many actions each
   reached                    chunks on standard input: how often each refusal is reached
@@ -58,11 +61,20 @@ fn number(word: &str) -> Result<usize, String> {
     word.parse().map_err(|_| format!("'{word}' is no number"))
 }
 
+fn file(path: &str) -> Result<Vec<u8>, String> {
+    std::fs::read(path).map_err(|error| format!("{path}: {error}"))
+}
+
 fn judge(path: &str) -> Outcome {
-    let list = std::fs::read(path).map_err(|error| format!("{path}: {error}"))?;
-    let printed = String::from_utf8(input()?).map_err(|_| "the account is no text")?;
-    judge::judge(&list, &printed)?;
-    output(b"a serial account of this list\n")
+    output(match judge::judge(&file(path)?, &input()?)? {
+        Verdict::Serial => b"a serial account of this list\n",
+        Verdict::Refused => b"the refusal of this list\n",
+    })
+}
+
+fn judge_replay(path: &str) -> Outcome {
+    let Tally { serial, refused } = judge::judge_replay(&file(path)?, &input()?)?;
+    output(format!("{serial} accounts judged, {refused} refusals\n").as_bytes())
 }
 
 fn generate(seed: &str, count: &str, cut: bool) -> Outcome {
@@ -125,6 +137,7 @@ fn command(words: &[&str]) -> Outcome {
         ["show"] => output(run::show(&input()?).as_bytes()),
         ["replay"] => output(chunks::replay(&input()?).as_bytes()),
         ["judge", list] => judge(list),
+        ["judge-replay", chunks] => judge_replay(chunks),
         ["generate", seed, count] => generate(seed, count, false),
         ["generate", seed, count, "cut"] => generate(seed, count, true),
         ["load", seed, lists, actions] => load(seed, lists, actions),

@@ -24,11 +24,17 @@ impl Run {
     }
 }
 
-/// Runs what a program is given: its first bytes, up to one more than a list can have.
-pub fn run(given: &[u8]) -> Result<Run, u8> {
+/// What stands before the account in a run: the list, and one record for each action.
+pub fn trace(given: &[u8]) -> Result<(List, Vec<Record>), u8> {
     let list = list::read(&given[..given.len().min(HANDED)])?;
     let mut store = Store::fresh(list.sizes, &list.memory);
     let trace = list.actions.iter().map(|action| store.step(*action).unwrap_or_else(Record::of_refusal)).collect();
+    Ok((list, trace))
+}
+
+/// Runs what a program is given: its first bytes, up to one more than a list can have.
+pub fn run(given: &[u8]) -> Result<Run, u8> {
+    let (list, trace) = trace(given)?;
     let mut run = Run { list, trace, account: Vec::new(), settled: 0 };
     let events = run.events();
     run.account = account::account(&events);

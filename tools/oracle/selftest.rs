@@ -3,18 +3,22 @@
 use crate::cases::{Case, CASES};
 use crate::random::Random;
 use crate::state_bytes::{item_from_bytes, item_to_bytes, ITEM};
-use crate::store::{Record, Store};
-use crate::{buffers, chunks, drawn_state, generate, judge, list, reached, run, states};
+use crate::store::{Record, Store, W};
+use crate::{bad_accounts, buffers, chunks, drawn_state, generate, judge, list, reached, run, states};
 
 type Test = (&'static str, fn() -> Result<(), String>);
 
-const TESTS: [Test; 14] = [
+const TESTS: [Test; 18] = [
     ("B1 to B9 are as the document says", cases_are_as_said),
     ("B1 has 144 bytes and length field 140", b1_has_its_length),
     ("B7 leaves memory and out queue as before", b7_changes_nothing),
     ("FNV-1a has its known values", fnv_is_fnv),
     ("the judge takes B1's account and not the order of issue", judge_tells_b1_apart),
     ("the judge takes every generated account", judge_takes_generated),
+    ("the judge's memory has no address but its own", judge_has_its_addresses),
+    ("the judge takes a replay, and counts its accounts and refusals", judge_takes_a_replay),
+    ("the judge finds the one bad account of a replay", judge_finds_the_bad_account),
+    ("the judge finds a part of a replay that is missing or left over", judge_finds_each_part),
     ("a settled part stays whatever follows", settled_stays),
     ("the stored seed reaches every number", every_number_is_reached),
     ("a list written is a list read, and chunks joined are split", written_is_read),
@@ -73,26 +77,78 @@ fn fnv_is_fnv() -> Result<(), String> {
     expect(chunks::fnv(b"foobar") == 0x8594_4171_f739_67e8, "of foobar")
 }
 
+fn expect_refusal<T>(found: Result<T, String>, reason: &str) -> Result<(), String> {
+    let said = found.err().unwrap_or("nothing".to_string());
+    expect(said == reason, &format!("the judge says '{said}' and not '{reason}'"))
+}
+
 fn judge_tells_b1_apart() -> Result<(), String> {
     let bytes = bytes_of(&CASES[0]);
-    judge::judge(&bytes, CASES[0].printed)?;
-    let wrong = [
-        "1 - W 1 1 1\n2 - W 1 0 7\n3 0 R 2 0 0\n4 1 R 2 1 1\n5 1 R 2 0 0\n6 2 R 2 0 7\n",
-        "1 0 R 2 0 0\n2 1 W 1 1 1\n3 1 R 2 0 0\n4 1 R 2 1 1\n5 2 W 1 0 7\n6 2 R 2 0 7\n",
-        "1 0 R 2 0 0\n2 1 W 1 1 1\n3 1 R 2 1 1\n4 1 R 2 0 0\n5 1 R 2 0 0\n6 2 W 1 0 7\n",
-    ];
-    for lines in wrong {
-        let printed = format!("accepted 14 refused 2 events 6 settled 1\n{lines}");
-        expect(judge::judge(&bytes, &printed).is_err(), &format!("taken:\n{printed}"))?;
-    }
-    Ok(())
+    judge::judge(&bytes, CASES[0].printed.as_bytes())?;
+    bad_accounts::of_b1().iter().try_for_each(|(text, reason)| expect_refusal(judge::judge(&bytes, text), reason))
 }
 
 fn judge_takes_generated() -> Result<(), String> {
     for chunk in generate::chunks_of(7, 400) {
-        judge::judge(&chunk, &run::answer(&chunk))?;
+        judge::judge(&chunk, run::answer(&chunk).as_bytes())?;
     }
     Ok(())
+}
+
+fn judge_has_its_addresses() -> Result<(), String> {
+    let write = Record { kind: W, engine: 1, origin: 0, address: 1, data: 5 };
+    judge::is_serial(vec![0, 0], &[write])?;
+    expect_refusal(judge::is_serial(vec![0], &[write]), "place 1: a plain memory has no address 1")
+}
+
+/// B3, B1, a list that is refused, and B4, as chunks; and what `replay` prints for each.
+fn four_lists() -> (Vec<u8>, Vec<String>) {
+    let lists = [bytes_of(&CASES[2]), bytes_of(&CASES[0]), Vec::new(), bytes_of(&CASES[3])];
+    (chunks::join(&lists), lists.iter().map(|list| chunks::replay_one(list)).collect())
+}
+
+fn judge_takes_a_replay() -> Result<(), String> {
+    let (input, parts) = four_lists();
+    let few = judge::judge_replay(&input, parts.concat().as_bytes())?;
+    expect((few.serial, few.refused) == (3, 1), "four lists are counted otherwise")?;
+    let lists = generate::chunks_of(7, 400);
+    let input = [chunks::join(&lists), generate::cut_short(7)].concat();
+    let many = judge::judge_replay(&input, chunks::replay(&input).as_bytes())?;
+    let read = lists.iter().filter(|list| list::read(list).is_ok()).count();
+    expect((many.serial, many.refused) == (read, lists.len() - read), "generated lists are counted otherwise")
+}
+
+fn judge_finds_the_bad_account() -> Result<(), String> {
+    let (input, parts) = four_lists();
+    let after = parts.concat().split_off(parts[0].len() + CASES[0].printed.len());
+    for (text, reason) in bad_accounts::of_b1() {
+        let printed = [parts[0].as_bytes(), &text, after.as_bytes()].concat();
+        expect_refusal(judge::judge_replay(&input, &printed), &format!("chunk 2: {reason}"))?;
+    }
+    Ok(())
+}
+
+fn judge_finds_each_part() -> Result<(), String> {
+    let (input, parts) = four_lists();
+    let (whole, [b3, b1, refused, b4]) = (parts.concat(), [0, 1, 2, 3].map(|at| parts[at].as_str()));
+    let wrong = [
+        ([b3, b1, refused].concat(), "chunk 4: nothing is printed for it, or no trace line ends it"),
+        (whole.trim_end().to_string(), "chunk 4: nothing is printed for it, or no trace line ends it"),
+        ([b3, refused, b4].concat(), "chunk 2: 'refused 1' is no line of counts"),
+        (whole.clone() + b4, "chunk 5: there is none, and something is printed for it"),
+        ([b3, b1, refused, refused, b4].concat(), "chunk 4: 'refused 1' is no line of counts"),
+        ([b3, b1, b1, b4].concat(), "chunk 3: the list is refused with 1, and nothing else is to be printed"),
+        (
+            whole.replacen("trace 0", "trace ", 1),
+            "chunk 1: line of place 3 is not one of an account: 'trace ec35c67f9d162eb'",
+        ),
+        (whole.clone() + "cut short\n", "chunk 5: 10 bytes follow the last trace line, and they are not \"\""),
+    ];
+    for (printed, reason) in wrong {
+        expect_refusal(judge::judge_replay(&input, printed.as_bytes()), reason)?;
+    }
+    let untold = judge::judge_replay(&[&input[..], &[0]].concat(), whole.as_bytes());
+    expect_refusal(untold, "chunk 5: 0 bytes follow the last trace line, and they are not \"cut short\\n\"")
 }
 
 /// The settled part of a list cut at each place is the start of the whole list's account.

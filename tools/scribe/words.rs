@@ -1,6 +1,6 @@
 //! The refusals' numbers in the words of document 01. They stand here and nowhere else.
 
-const WORDS: [(u8, &str); 26] = [
+const WORDS: [(u8, &str); 25] = [
     (1, "fewer than 8 bytes"),
     (2, "length field differs from total minus 4"),
     (3, "version"),
@@ -30,7 +30,6 @@ const WORDS: [(u8, &str); 26] = [
     (28, "CU: in queue empty"),
     (29, "trace buffer shorter than 8 bytes an action"),
     (30, "account buffer shorter than 12 bytes an account event"),
-    (31, "the account it built is not serial"),
 ];
 
 pub fn words_of(number: u8) -> Option<&'static str> {

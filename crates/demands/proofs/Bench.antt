@@ -1,25 +1,18 @@
 -- B1 to B9, computed: trace, account and counts of each case's list. One lemma a case, so that a slip is refused by the case that it spoils. Assumes nothing.
-use mathlib.Core.Path.{_≡_, refl}
-use Rattle.figure.proofs.Machines.{below}
+use mathlib.Core.Path.{refl}
 use Rattle.figure.specs.Refusals.{sizesRefused}
 use Rattle.lists.specs.Bytes.{rows, u32At}
 use Rattle.lists.specs.Codec.{thingsAt}
 use Rattle.lists.specs.Read.{readOf, readRefused, layoutOf, memoryOf, actionsOf, listBytes, bodyOf}
-use Rattle.shape.specs.Case.{Every, listOf}
+use Rattle.shape.specs.Case.{Every}
 use Rattle.shape.specs.Cases.{B1, B2, B3, B4, B5, B6, B7, B8, B9, cases}
 use Rattle.shape.specs.Fresh.{freshOf}
 use Rattle.shape.specs.Sound.{soundOf}
 use Rattle.shape.specs.Step.{stepped, stepRefused, formRefused, turnRefused}
-use Rattle.shape.specs.Trace.{traced}
 use Rattle.shape.specs.Turns.{storeAfter, traceAfter}
 use Rattle.demands.specs.Bench.{Accounted}
 use Rattle.demands.specs.Lines.{slotLines}
-use Rattle.demands.specs.Run.{runFresh, runAction, runTrace, runBook, acceptedIn, refusedIn}
-
--- each action of B3 in turn, as the step takes it: what a program falls to that carries out a whole list at the first action and pretends later
-B3-in-turn : runTrace (listOf B3) ≡ below (λ k. traced (stepped (storeAfter (runFresh (listOf B3)) (runAction (listOf B3)) k) (runAction (listOf B3) k))) 3
-unfolding runTrace rows thingsAt u32At readOf readRefused layoutOf memoryOf actionsOf listBytes bodyOf sizesRefused freshOf soundOf stepped stepRefused formRefused turnRefused storeAfter traceAfter below
-B3-in-turn = refl
+use Rattle.demands.specs.Run.{runTrace, runBook, acceptedIn, refusedIn}
 
 B1-accounted : Accounted B1
 unfolding runTrace runBook acceptedIn refusedIn slotLines rows thingsAt u32At readOf readRefused layoutOf memoryOf actionsOf listBytes bodyOf sizesRefused freshOf soundOf stepped stepRefused formRefused turnRefused storeAfter traceAfter

@@ -1,49 +1,43 @@
 -- The demands about a run, one after another, each with what proves it. Assumes nothing.
-use mathlib.Core.Bool.{true, not}
+use mathlib.Core.Bool.{true}
 use mathlib.Core.List.{List, [], _++_, map, map-append}
 use mathlib.Core.Path.{_≡_, refl, sym, ap, _∙_}
-use Prim.Native.Nat.{ℕ, zero, suc, _+_, _-_, _*_, _≤_, _<_}
+use Prim.Native.Nat.{ℕ, zero, suc, _+_, _-_, _*_, _≤_}
 use native.Mathlib.Omega.{arith}
-use lib.ListN.{length, getD, take, length-map}
+use lib.ListN.{length, take, length-map}
 use lib.Seq.{take-at}
 use borrow.Author.Tests.{le-ltb}
-use Rattle.figure.specs.Account.{Event, blank, log, book, account, settledSlots, settled}
+use Rattle.figure.specs.Account.{Event, blank, log, book, settledSlots, settled}
 use Rattle.figure.specs.Event.{eventView}
-use Rattle.figure.specs.Demand.{Serial, serial?, Begins, Opens, bookOf, Right}
-use Rattle.figure.specs.Record.{noRecord}
-use Rattle.figure.specs.Refusals.{Refusal, firstOf, unless, sizesRefused, mostActions}
+use Rattle.figure.specs.Demand.{Begins, Opens, bookOf, Right}
+use Rattle.figure.specs.Refusals.{firstOf, numbered, unless, sizesRefused, mostActions}
 use Rattle.figure.specs.declared.Record.{Record}
 use Rattle.figure.specs.declared.Sizes.{Sizes}
 use Rattle.figure.proofs.Begins.{begins-on, opens-flat}
-use Rattle.figure.proofs.First.{Numbered, Silent, first-none, none-first, first-not, first-front, numbered-append, none-append, none-split, silent-append}
+use Rattle.figure.proofs.First.{first-none, none-first, none-append, none-split}
 use Rattle.figure.proofs.Machines.{below, below-append}
-use Rattle.figure.proofs.Step.{serial-test}
 use Rattle.figure.proofs.Theorem.{right}
 use Rattle.lists.specs.Bytes.{rows, laid}
-use Rattle.lists.specs.Read.{sizesAt, readRefused, readOf}
+use Rattle.lists.specs.Read.{readRefused, readOf}
 use Rattle.lists.specs.Record.{recordWidth, recordBytes}
-use Rattle.lists.proofs.Codecs.{record-lawful}
-use Rattle.lists.proofs.Things.{length-coded}
 use Rattle.lists.specs.Line.{lineWidth}
-use Rattle.lists.proofs.Sized.{read-number, read-numbered, taken-none, held}
+use Rattle.lists.proofs.Sized.{read-number, taken-none, held}
 use Rattle.shape.specs.Fresh.{freshOf}
-use Rattle.shape.specs.Step.{stepped}
-use Rattle.shape.specs.Trace.{traced}
-use Rattle.shape.specs.Turns.{storeAfter}
 use Rattle.shape.specs.View.{stepView}
-use Rattle.shape.proofs.Trails.{trace-at, trace-alike}
+use Rattle.shape.proofs.Trails.{trace-alike}
+use Rattle.demands.proofs.Account.{run-book}
 use Rattle.demands.proofs.Follows.{stepsBelow}
 use Rattle.demands.proofs.Listed.{listed-account}
 use Rattle.demands.proofs.Lengths.{log-most, perm-long, length-account, all-counted, opens-lines, settled-front}
-use Rattle.demands.specs.Demand.{runMemory, runSteps, Untouched, bookAfter, Demand3, Shorter}
-use Rattle.demands.proofs.Runs.{length-run, followed, run-events, run-book}
+use Rattle.demands.proofs.Runs.{length-run, run-bytes-long, followed, run-events}
+use Rattle.demands.specs.Demand.{runSteps, Untouched, bookAfter, Demand3, Shorter}
 use Rattle.demands.specs.Lines.{accountBytes, settledBytes}
-use Rattle.demands.specs.Run.{runSizes, runFresh, runAction, runTrace, runBook, ownRefused, runRefused, runNumber, countsAs, Ran}
+use Rattle.demands.specs.Run.{runSizes, runFresh, runMemory, runAction, runTrace, runBook, runAccount, ownRefused, runRefused, runNumber, countsAs, Ran}
 use Rattle.demands.specs.declared.Counts.{Counts}
 
 -- ==== Demand 1. "A refusal gives its number; the state and all lent buffers stay as they came."
 
-number-of : (k : ℕ) (list : List ℕ) → countsAs k list .number ≡ k
+pub number-of : (k : ℕ) (list : List ℕ) → countsAs k list .number ≡ k
 number-of zero list = refl
 number-of (suc k) list = refl
 
@@ -66,14 +60,16 @@ pub run-refuses : {list trace account : List ℕ} {r : Counts} {trace′ account
 unfolding runNumber
 run-refuses h = run-number h
 
-pub run-numbered : (list : List ℕ) (trace-room account-room : ℕ) → Numbered (runRefused list trace-room account-room)
-unfolding runRefused
-run-numbered list trace-room account-room = numbered-append (readRefused list) _ (read-numbered list) ((λ e. omega arith), ((λ e. omega arith), ((λ e. omega arith), tt)))
+pub run-numbered : (list : List ℕ) (trace-room account-room : ℕ) → numbered (runRefused list trace-room account-room) ≡ true
+unfolding runRefused readRefused sizesRefused
+run-numbered list trace-room account-room = refl
 
--- "and the run takes each action in turn as that step does"
-pub in-turn : (list : List ℕ) (k : ℕ) → k < readOf list .actions → getD (runTrace list) k noRecord ≡ traced (stepped (storeAfter (runFresh list) (runAction list) k) (runAction list k))
-unfolding runTrace
-in-turn list k = trace-at (runFresh list) (runAction list) (readOf list .actions) k noRecord
+-- where the run refuses nothing, the reader does not either
+pub reader-takes : (list trace account : List ℕ) → runNumber list trace account ≡ 0 → readOf list .number ≡ 0
+unfolding runNumber runRefused
+reader-takes list trace account e =
+    let none = none-first (runRefused list (length trace) (length account)) (run-numbered list (length trace) (length account)) e in
+    read-number list ∙ first-none (readRefused list) (none-split (readRefused list) (ownRefused list (length trace) (length account)) none .0)
 
 -- ==== Demand 3. "For any list the run accepts from a fresh store": h and ok.
 
@@ -101,60 +97,25 @@ module _ (list : List ℕ) (ok : readOf list .number ≡ 0) where
   slots-begin : (j k : ℕ) → j ≤ k → Opens (settledSlots z (bookAfter list j)) (bookAfter list k .slots)
   slots-begin j k h = rw (book-after j, book-after k, later j k h, more-steps j (k - j)) (right z (runMemory list) (stepsBelow z (runAction list) j) .slots-begin (stepsBelow z (λ i. runAction list (i + j)) (k - j)))
 
-  account-serial : Serial (runMemory list) (account z (runBook list))
-  account-serial = rw (run-book list ok) (right-of .serial)
-
-  -- no list brings about 31
-  pub never-31 : serial? (runMemory list) (account z (runBook list)) ≡ true
-  never-31 = serial-test (runMemory list) (account z (runBook list)) account-serial
-
   -- a list that the reader takes, and buffers that are long enough: the run takes them
-  pub run-taken : (trace account′ : List ℕ) → recordWidth * readOf list .actions ≤ length trace → lineWidth * length (account z (runBook list)) ≤ length account′ → runNumber list trace account′ ≡ 0
+  pub run-taken : (trace account′ : List ℕ) → recordWidth * readOf list .actions ≤ length trace → lineWidth * length (runAccount list) ≤ length account′ → runNumber list trace account′ ≡ 0
   unfolding runNumber runRefused
   run-taken trace account′ t a =
       first-none (runRefused list (length trace) (length account′))
       (none-append (readRefused list) (ownRefused list (length trace) (length account′)) (taken-none list ok)
-      (le-ltb (length trace) (recordWidth * readOf list .actions) t, (le-ltb (length account′) (lineWidth * length (account z (runBook list))) a, (ap not never-31, tt))))
-
--- none of the reader's numbers is 31
-sizes-silent : (z : Sizes) → Silent 31 (sizesRefused z)
-unfolding sizesRefused
-sizes-silent z = (λ e. absurd (omega arith), (λ e. absurd (omega arith), (λ e. absurd (omega arith), tt)))
-
-read-silent : (list : List ℕ) → Silent 31 (readRefused list)
-unfolding readRefused
-read-silent list =
-    (λ e. absurd (omega arith), (λ e. absurd (omega arith), (λ e. absurd (omega arith), silent-append 31 (sizesRefused (sizesAt list)) _ (sizes-silent (sizesAt list)) (λ e. absurd (omega arith), (λ e. absurd (omega arith), (λ e. absurd (omega arith), tt))))))
-
--- the run never answers 31
-pub not-31 : {list trace account : List ℕ} {r : Counts} {trace′ account′ : List ℕ} → Ran list trace account r trace′ account′ → ¬ (r .number ≡ 31)
-unfolding runRefused
-not-31 {list} {trace} {account} h e = at (firstOf (readRefused list)) refl
-  where
-    own : List Refusal
-    own = ownRefused list (length trace) (length account)
-
-    answers : firstOf (readRefused list ++ own) ≡ 31
-    answers = sym (run-refuses h) ∙ e
-
-    at : (k : ℕ) → firstOf (readRefused list) ≡ k → ⊥
-    at zero q =
-        first-not 31 (readRefused list ++ own) (λ e. omega arith)
-        (silent-append 31 (readRefused list) own (read-silent list) (λ e. absurd (omega arith), (λ e. absurd (omega arith), (λ _. ap not (never-31 list (read-number list ∙ q)), tt)))) answers
-    at (suc k) q = first-not 31 (readRefused list) (λ e. omega arith) (read-silent list) (sym (first-front (readRefused list) own (λ n. omega arith)) ∙ answers)
+      (le-ltb (length trace) (recordWidth * readOf list .actions) t, (le-ltb (length account′) (lineWidth * length (runAccount list)) a, tt)))
 
 module _ {list trace account′ : List ℕ} {r : Counts} {trace″ account″ : List ℕ} (h : Ran list trace account′ r trace″ account″) (ok : r .number ≡ 0) where
   number-zero : runNumber list trace account′ ≡ 0
   number-zero = sym (run-number h) ∙ ok
 
   pub reader-took : readOf list .number ≡ 0
-  unfolding runNumber runRefused
-  reader-took = read-number list ∙ first-none (readRefused list) (none-split (readRefused list) (ownRefused list (length trace) (length account′)) (none-first (runRefused list (length trace) (length account′)) (run-numbered list (length trace) (length account′)) number-zero) .0)
+  reader-took = reader-takes list trace account′ number-zero
 
   -- what stands at the front of the trace buffer
   pub run-trace : take (recordWidth * readOf list .actions) trace″ ≡ rows recordBytes (runTrace list)
   unfolding laid unless
-  run-trace = rw (h .trace-is, number-zero) (take-at (rows recordBytes (runTrace list)) _ _ (length-coded record-lawful (runTrace list) ∙ ap (λ (n : ℕ). recordWidth * n) (length-run list)))
+  run-trace = rw (h .trace-is, number-zero) (take-at (rows recordBytes (runTrace list)) _ _ (run-bytes-long list))
 
   counts-of : r ≡ countsAs 0 list
   counts-of = h .counts ∙ ap (λ (k : ℕ). countsAs k list) number-zero
@@ -177,7 +138,7 @@ module _ {list trace account′ : List ℕ} {r : Counts} {trace″ account″ : 
         in-slots = λ k. rw (run-book list reader-took) (g .in-slots k);
         ordered = λ i. rw (run-book list reader-took, f) (g .ordered i);
         no-other = λ i e. rw (run-book list reader-took) (g .no-other i e);
-        serial = account-serial list reader-took;
+        serial = h .serial ok;
         stays = λ j k l. opens-flat (slots-stay list reader-took j k l);
         begins = λ j k l. begins-on _ (opens-flat (slots-begin list reader-took j k l));
         bytes-stay = λ j k l. opens-lines 0 (slots-stay list reader-took j k l);
@@ -214,7 +175,7 @@ module _ {list longer : List ℕ} (s : Shorter list longer) where
     pub shorter-stays : Begins (settled (runSizes list) (runBook list)) (settled (runSizes longer) (runBook longer))
     shorter-stays = opens-flat shorter-slots-stay
 
-    pub shorter-begins : Begins (settled (runSizes list) (runBook list)) (account (runSizes longer) (runBook longer))
+    pub shorter-begins : Begins (settled (runSizes list) (runBook list)) (runAccount longer)
     shorter-begins = begins-on _ (opens-flat shorter-slots-begin)
 
     pub shorter-bytes-stay : Begins (settledBytes (runSizes list) (runBook list)) (settledBytes (runSizes longer) (runBook longer))

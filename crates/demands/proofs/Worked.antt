@@ -4,7 +4,6 @@ use mathlib.Core.Path.{_≡_, ap, _∙_}
 use Prim.Native.Nat.{ℕ, _*_, _≤_}
 use native.Mathlib.Omega.{arith}
 use lib.ListN.{length}
-use Rattle.figure.specs.Account as Account
 use Rattle.figure.specs.Refusals.{unless}
 use Rattle.lists.specs.Line.{lineWidth}
 use Rattle.lists.specs.Read.{readOf}
@@ -12,7 +11,7 @@ use Rattle.lists.specs.Record.{recordWidth}
 use Rattle.shape.specs.Case.{Case, listOf, Turned}
 use Rattle.demands.proofs.Demands.{run-taken}
 use Rattle.demands.specs.Bench.{Accounted, CaseRan}
-use Rattle.demands.specs.Run.{runSizes, runBook, runNumber, Ran}
+use Rattle.demands.specs.Run.{runAccount, runNumber, Ran}
 use Rattle.demands.specs.declared.Counts.{Counts}
 
 module _ (c : Case) (t : Turned c) (a : Accounted c) (trace account : List ℕ) (trace-room : recordWidth * length (c .turns) ≤ length trace) (account-room : lineWidth * length (c .lines) ≤ length account) where
@@ -20,7 +19,7 @@ module _ (c : Case) (t : Turned c) (a : Accounted c) (trace account : List ℕ) 
   trace-fits : recordWidth * readOf (listOf c) .actions ≤ length trace
   trace-fits = rw (t .actions) trace-room
 
-  account-fits : lineWidth * length (Account.account (runSizes (listOf c)) (runBook (listOf c))) ≤ length account
+  account-fits : lineWidth * length (runAccount (listOf c)) ≤ length account
   account-fits = omega (arith, ap (λ (r : Counts). r .events) (a .counts))
 
   taken : runNumber (listOf c) trace account ≡ 0

@@ -13,7 +13,7 @@ use Rattle.lists.specs.Read.{readOf, memoryOf, actionsOf}
 use Rattle.shape.specs.Turns.{traceAfter}
 use Rattle.shape.specs.View.{stepView}
 use Rattle.demands.specs.Lines.{itemBytes, accountBytes, settledBytes}
-use Rattle.demands.specs.Run.{runSizes, runFresh, runAction, runTrace, runBook}
+use Rattle.demands.specs.Run.{runSizes, runFresh, runMemory, runAction, runTrace, runBook, runAccount}
 use Rattle.demands.specs.declared.Counts.{Counts}
 
 -- ---- demand 1: "A refusal gives its number; the state and all lent buffers stay as they came."
@@ -25,10 +25,7 @@ pub record Untouched (r : Counts) (trace account trace′ account′ : List ℕ)
 
 -- ---- demand 3
 
--- the table of a list, as the figure's memory; its actions, as the figure's steps
-abbrev pub runMemory : List ℕ → ℕ → ℕ
-runMemory list a = getD (memoryOf list) a 0
-
+-- the actions of a list, as the figure's steps
 abbrev pub runSteps : List ℕ → List Step
 runSteps list = map (stepView (runSizes list)) (actionsOf list)
 
@@ -45,23 +42,23 @@ pub record Demand3 (list account′ : List ℕ) (r : Counts) : Type 0 where
   -- what stands at the front of the account buffer is the account of what the trace says happened
   pub bytes : take (lineWidth * r .events) account′ ≡ accountBytes (runSizes list) (runBook list)
   -- one line for each item, in their order
-  pub lines : Listed (account (runSizes list) (runBook list)) account′
-  pub events : r .events ≡ length (account (runSizes list) (runBook list))
+  pub lines : Listed (runAccount list) account′
+  pub events : r .events ≡ length (runAccount list)
   -- each action is accepted or refused
   pub counted : r .accepted + r .refused ≡ length (runTrace list)
   pub settled-count : r .settled ≡ length (settled (runSizes list) (runBook list))
   -- and so many lines of the account buffer are what is settled
   pub settled-bytes : take (lineWidth * r .settled) account′ ≡ settledBytes (runSizes list) (runBook list)
   -- "the account holds each accepted read and write exactly once"
-  pub once : Perm (account (runSizes list) (runBook list)) (log 0 (map eventView (runTrace list)))
+  pub once : Perm (runAccount list) (log 0 (map eventView (runTrace list)))
   pub tagged : Rises 0 (length (runSteps list)) (log 0 (map eventView (runTrace list)))
   -- "Within one slot, reads stand in the order they happened", whichever engines they are of
   pub in-slots : (k : ℕ) → Rises 0 (length (runSteps list)) (getD (runBook list .slots) k [])
   -- "each engine's events in its own order"
-  pub ordered : (i : ℕ) → own i (account (runSizes list) (runBook list)) ≡ own i (log 0 (map eventView (runTrace list)))
-  pub no-other : (i : ℕ) → engine? (runSizes list) i ≡ false → own i (account (runSizes list) (runBook list)) ≡ []
+  pub ordered : (i : ℕ) → own i (runAccount list) ≡ own i (log 0 (map eventView (runTrace list)))
+  pub no-other : (i : ℕ) → engine? (runSizes list) i ≡ false → own i (runAccount list) ≡ []
   -- "and on one plain memory every read gets the value it got"
-  pub serial : Serial (runMemory list) (account (runSizes list) (runBook list))
+  pub serial : Serial (runMemory list) (runAccount list)
   -- "What is settled at one moment begins what is settled, and the account, at every later moment.": event by event, and byte by byte, slot numbers included
   pub stays : (j k : ℕ) → j ≤ k → Begins (settled (runSizes list) (bookAfter list j)) (settled (runSizes list) (bookAfter list k))
   pub begins : (j k : ℕ) → j ≤ k → Begins (settled (runSizes list) (bookAfter list j)) (account (runSizes list) (bookAfter list k))

@@ -1,13 +1,13 @@
 -- Which refusal is the first that applies: the one at place k, where those before it do not apply and it does; none, where none does. Assumes nothing.
-use mathlib.Core.Path.{_≡_, refl, sym, ap, _∙_}
-use mathlib.Core.Bool.{Bool, true, false, not, true≢false}
+use mathlib.Core.Path.{_≡_, refl, ap, _∙_}
+use mathlib.Core.Bool.{Bool, true, false, not}
 use mathlib.Core.List.{List, [], _∷_, _++_}
 use Prim.Native.Nat.{ℕ, zero, suc}
-use native.Mathlib.Omega.{arith}
 use lib.Dec.{eqb}
-use borrow.Author.Tests.{eq-eqb, ne-eqb}
-use Rattle.figure.specs.Refusals.{Refusal, pick, firstOf, NoneApplies, sizesRefused}
+use borrow.Author.Tests.{eq-eqb, ne-eqb, eqb-false, not-true}
+use Rattle.figure.specs.Refusals.{Refusal, pick, firstOf, NoneApplies, retired, numbered, sizesRefused}
 use Rattle.figure.specs.declared.Sizes.{Sizes}
+use Rattle.figure.proofs.Laws.{and-left, and-right}
 
 -- the first k refusals do not apply; the test of the refusal at place k, and its number
 abbrev pub Passed : ℕ → List Refusal → Type 0
@@ -37,51 +37,30 @@ first-at (suc k) (r ∷ rs) h e = ap (λ (b : Bool). pick b (r .number) (firstOf
 
 -- ---- 0 exactly if none applies
 
--- no refusal has the number 0
-abbrev pub Numbered : List Refusal → Type 0
-Numbered [] = Unit {0}
-Numbered (r ∷ rs) = ¬ (r .number ≡ 0) × Numbered rs
-
 pub first-none : (rs : List Refusal) → NoneApplies rs → firstOf rs ≡ 0
 first-none [] h = refl
 first-none (r ∷ rs) h = rw (h .0) (first-none rs (h .1))
 
-pub none-first : (rs : List Refusal) → Numbered rs → firstOf rs ≡ 0 → NoneApplies rs
+-- the first of a list of refusals with their numbers has one, and so have the others
+not-zero : (r : Refusal) (rs : List Refusal) → numbered (r ∷ rs) ≡ true → ¬ (r .number ≡ 0)
+not-zero r rs n = eqb-false (r .number) 0 (not-true _ (and-left (not (eqb (r .number) 0)) _ n))
+
+rest-numbered : (r : Refusal) (rs : List Refusal) → numbered (r ∷ rs) ≡ true → numbered rs ≡ true
+rest-numbered r rs n = and-right (not (retired (r .number))) _ (and-right (not (eqb (r .number) 0)) _ n)
+
+pub none-first : (rs : List Refusal) → numbered rs ≡ true → firstOf rs ≡ 0 → NoneApplies rs
 none-first [] n h = tt
-none-first (r ∷ rs) n h = at (r .applies) refl h (none-first rs (n .1))
+none-first (r ∷ rs) n h = at (r .applies) refl h (none-first rs (rest-numbered r rs n))
   where
     at : (t : Bool) → r .applies ≡ t → pick t (r .number) (firstOf rs) ≡ 0 → (firstOf rs ≡ 0 → NoneApplies rs) → (r .applies ≡ false) × NoneApplies rs
-    at true e h k = absurd (n .0 h)
+    at true e h k = absurd (not-zero r rs n h)
     at false e h k = (e, k h)
 
-pub sizes-numbered : (z : Sizes) → Numbered (sizesRefused z)
+pub sizes-numbered : (z : Sizes) → numbered (sizesRefused z) ≡ true
 unfolding sizesRefused
-sizes-numbered z = (λ e. omega arith, (λ e. omega arith, (λ e. omega arith, tt)))
-
--- ---- a number that is not the answer
-
--- no refusal of number n applies
-abbrev pub Silent : ℕ → List Refusal → Type 0
-Silent n [] = Unit {0}
-Silent n (r ∷ rs) = (r .number ≡ n → r .applies ≡ false) × Silent n rs
-
-pub first-not : (n : ℕ) (rs : List Refusal) → ¬ (n ≡ 0) → Silent n rs → ¬ (firstOf rs ≡ n)
-first-not n [] z h = λ e. z (sym e)
-first-not n (r ∷ rs) z h = at (r .applies) refl (first-not n rs z (h .1))
-  where
-    at : (t : Bool) → r .applies ≡ t → ¬ (firstOf rs ≡ n) → ¬ (pick t (r .number) (firstOf rs) ≡ n)
-    at true q k e = true≢false (sym q ∙ h .0 e)
-    at false q k e = k e
+sizes-numbered z = refl
 
 -- ---- two lists of refusals, one after the other
-
-pub silent-append : (n : ℕ) (rs qs : List Refusal) → Silent n rs → Silent n qs → Silent n (rs ++ qs)
-silent-append n [] qs h k = k
-silent-append n (r ∷ rs) qs h k = (h .0, silent-append n rs qs (h .1) k)
-
-pub numbered-append : (rs qs : List Refusal) → Numbered rs → Numbered qs → Numbered (rs ++ qs)
-numbered-append [] qs h k = k
-numbered-append (r ∷ rs) qs h k = (h .0, numbered-append rs qs (h .1) k)
 
 pub none-append : (rs qs : List Refusal) → NoneApplies rs → NoneApplies qs → NoneApplies (rs ++ qs)
 none-append [] qs h k = k
@@ -93,11 +72,11 @@ none-split (r ∷ rs) qs h =
     let k = none-split rs qs (h .1) in
     ((h .0, k .0), k .1)
 
-pub first-append : (rs qs : List Refusal) → firstOf rs ≡ 0 → Numbered rs → firstOf (rs ++ qs) ≡ firstOf qs
+pub first-append : (rs qs : List Refusal) → firstOf rs ≡ 0 → numbered rs ≡ true → firstOf (rs ++ qs) ≡ firstOf qs
 first-append [] qs h n = refl
 first-append (r ∷ rs) qs h n =
     let k : NoneApplies (r ∷ rs) = none-first (r ∷ rs) n h in
-    rw (k .0) (first-append rs qs (first-none rs (k .1)) (n .1))
+    rw (k .0) (first-append rs qs (first-none rs (k .1)) (rest-numbered r rs n))
 
 pub first-front : (rs qs : List Refusal) → ¬ (firstOf rs ≡ 0) → firstOf (rs ++ qs) ≡ firstOf rs
 first-front [] qs h = absurd (h refl)

@@ -2,14 +2,15 @@
 use Prim.Native.Nat.{ℕ, suc}
 use native.Mathlib.Omega.{arith}
 use mathlib.Core.Path.{_≡_, refl, sym, ap, _∙_}
-use mathlib.Core.Bool.{Bool, false, _&&_}
+use mathlib.Core.Bool.{Bool, _&&_}
 use mathlib.Core.Option.{some}
 use mathlib.Core.List.{List, [], _∷_}
+use borrow.Author.Tests.{eqb-false}
 use Rattle.figure.specs.declared.Sizes.{Sizes}
 use Rattle.figure.specs.Refusals.{pick}
 use Rattle.figure.specs.Figure.{upd, Out, wr, up, State, Step, R, W, MW, MR, CU, CI, fresh, empty, present, named, accepted, join-in, next}
 use Rattle.figure.specs.Account.{Event, refused, read, wrote, published, refreshed, updated, dropped, event, Item, reading, writing, log, Book, blank, note, book, account}
-use Rattle.figure.specs.Demand.{serial?, own, logOf, bookOf}
+use Rattle.figure.specs.Demand.{Serial, own, logOf, bookOf}
 use Rattle.figure.proofs.Machines.{runs, tape}
 use Rattle.figure.proofs.Run.{trace-tape}
 use Rattle.figure.proofs.Simulates.{alone}
@@ -90,8 +91,8 @@ pub at-once-account : accountBy at-once sizes1 allZero list1
     ≡ reading 6 2 0 0 ∷ writing 4 1 1 1 ∷ reading 11 2 1 1 ∷ reading 12 2 0 7 ∷ writing 5 1 0 7 ∷ reading 14 2 0 7 ∷ []
 at-once-account = refl
 
-pub at-once-breaks : serial? allZero (accountBy at-once sizes1 allZero list1) ≡ false
-at-once-breaks = refl
+pub at-once-breaks : ¬ Serial allZero (accountBy at-once sizes1 allZero list1)
+at-once-breaks h = eqb-false 0 7 refl (h .1 .1 .0)
 
 -- ---- "Reading as soon as the out queue is empty, with the engine's own update still waiting": engine 1 writes 1, and then reads 0 before that write
 
@@ -145,13 +146,13 @@ list5-account = refl
 pub skipping-account : accountBy skipping sizes1 allZero list5 ≡ reading 4 1 0 5 ∷ writing 0 1 0 5 ∷ []
 skipping-account = refl
 
-pub skipping-breaks : serial? allZero (accountBy skipping sizes1 allZero list5) ≡ false
-skipping-breaks = refl
+pub skipping-breaks : ¬ Serial allZero (accountBy skipping sizes1 allZero list5)
+skipping-breaks h = eqb-false 0 5 refl (h .0)
 
 -- ---- "The order of issue given as the account. B1 then has 7 written before a read of 0."
 
-pub issue-order-breaks : serial? allZero (logOf sizes1 allZero list1) ≡ false
-issue-order-breaks = refl
+pub issue-order-breaks : ¬ Serial allZero (logOf sizes1 allZero list1)
+issue-order-breaks h = eqb-false 7 0 refl (h .0)
 
 -- ---- "Counting refreshes as taken writes": in B4 the read of 3 then falls behind the write of 4, and the read of 4 into no slot
 
@@ -170,5 +171,5 @@ counting = record { accepts = accepted; moves = next; notes = counted }
 pub counting-account : accountBy counting sizes4 threes list4 ≡ writing 1 2 0 4 ∷ reading 4 1 0 3 ∷ []
 counting-account = refl
 
-pub counting-breaks : serial? threes (accountBy counting sizes4 threes list4) ≡ false
-counting-breaks = refl
+pub counting-breaks : ¬ Serial threes (accountBy counting sizes4 threes list4)
+counting-breaks h = eqb-false 4 3 refl (h .0)

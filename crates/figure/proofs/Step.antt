@@ -1,16 +1,11 @@
--- A step has exactly one outcome, and a refused one changes nothing; the serial test is what it tests. Assumes nothing.
-use Prim.Native.Nat.{ℕ}
+-- A step has exactly one outcome, and a refused one changes nothing. Assumes nothing.
 use mathlib.Core.Path.{_≡_, refl}
 use mathlib.Core.Bool.{Bool, true, false}
-use mathlib.Core.List.{List, [], _∷_}
-use lib.Dec.{eqb}
-use borrow.Author.Tests.{eqb-true, eq-eqb}
+use mathlib.Core.List.{List, _∷_}
 use Rattle.figure.specs.declared.Sizes.{Sizes}
 use Rattle.figure.specs.Refusals.{pick}
-use Rattle.figure.specs.Figure.{upd, State, Step, accepted, next, step}
-use Rattle.figure.specs.Account.{Event, refused, event, happened, trace, Item, reading, writing}
-use Rattle.figure.specs.Demand.{Serial, serial?}
-use Rattle.figure.proofs.Laws.{and-left, and-right}
+use Rattle.figure.specs.Figure.{State, Step, accepted, next, step}
+use Rattle.figure.specs.Account.{Event, refused, event, happened, trace}
 
 -- what may come of a step: the next state and the event where it is accepted, the state it was given and no event where it is refused
 pub data Outcome (z : Sizes) (s : State) (x : Step) : State → Event → Type 0 where
@@ -39,15 +34,3 @@ total z s x = at (accepted z s x) refl
 pub only : (z : Sizes) (s : State) (x : Step) {r : State} {e : Event} → Outcome z s x r e → (r ≡ step z s x) × (e ≡ happened z s x)
 only z s x (taken y p q) = rw (y) (p, q)
 only z s x (left y p q) = rw (y) (p, q)
-
--- ---- the serial test
-
-pub serial-test : (m : ℕ → ℕ) (xs : List Item) → Serial m xs → serial? m xs ≡ true
-serial-test m [] h = refl
-serial-test m (reading t i a d ∷ xs) h = rw (eq-eqb (m a) d (h .0)) (serial-test m xs (h .1))
-serial-test m (writing t i a d ∷ xs) h = serial-test (upd m a d) xs h
-
-pub serial-tested : (m : ℕ → ℕ) (xs : List Item) → serial? m xs ≡ true → Serial m xs
-serial-tested m [] e = tt
-serial-tested m (reading t i a d ∷ xs) e = (eqb-true (m a) d (and-left (eqb (m a) d) _ e), serial-tested m xs (and-right (eqb (m a) d) _ e))
-serial-tested m (writing t i a d ∷ xs) e = serial-tested (upd m a d) xs e

@@ -1,7 +1,7 @@
 -- Demand 3, about the account of any list of steps from a fresh store. Assumes nothing.
 use Prim.Native.Nat.{ℕ, suc, _≤_}
 use mathlib.Core.Path.{_≡_}
-use mathlib.Core.Bool.{Bool, true, false, _&&_}
+use mathlib.Core.Bool.{Bool, true, false}
 use mathlib.Core.List.{List, [], _∷_, _++_, Perm}
 use lib.Dec.{eqb}
 use lib.ListN.{length, getD}
@@ -9,16 +9,11 @@ use Rattle.figure.specs.declared.Sizes.{Sizes}
 use Rattle.figure.specs.Figure.{upd, Step, fresh, engine?}
 use Rattle.figure.specs.Account.{Event, Item, reading, writing, Book, blank, trace, log, book, account, settledSlots, settled}
 
--- "on one plain memory every read gets the value it got", and the test of it
+-- "on one plain memory every read gets the value it got"
 abbrev pub Serial : (ℕ → ℕ) → List Item → Type 0
 Serial m [] = Unit {0}
 Serial m (reading t i a d ∷ xs) = (m a ≡ d) × Serial m xs
 Serial m (writing t i a d ∷ xs) = Serial (upd m a d) xs
-
-abbrev pub serial? : (ℕ → ℕ) → List Item → Bool
-serial? m [] = true
-serial? m (reading t i a d ∷ xs) = eqb (m a) d && serial? m xs
-serial? m (writing t i a d ∷ xs) = serial? (upd m a d) xs
 
 -- an item's engine and its place in the list of actions
 abbrev pub who : Item → ℕ

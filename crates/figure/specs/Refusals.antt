@@ -1,9 +1,9 @@
 -- Refusals in order, and the sizes. Assumes nothing.
 use Prim.Native.Nat.{ℕ, zero, suc}
-use mathlib.Core.Bool.{Bool, true, false, _||_}
+use mathlib.Core.Bool.{Bool, true, false, not, _&&_, _||_}
 use mathlib.Core.Path.{_≡_}
 use mathlib.Core.List.{List, [], _∷_}
-use lib.Dec.{ltb}
+use lib.Dec.{eqb, ltb}
 use Rattle.figure.specs.declared.Sizes.{Sizes}
 
 -- a number, and whether what it stands for applies
@@ -29,6 +29,15 @@ firstOf (r ∷ rs) = pick (r .applies) (r .number) (firstOf rs)
 abbrev pub NoneApplies : List Refusal → Type 0
 NoneApplies [] = Unit {0}
 NoneApplies (r ∷ rs) = (r .applies ≡ false) × NoneApplies rs
+
+-- "Numbers are not used again." (request [10]): 31 was the run's, "the account it built is not serial"
+abbrev pub retired : ℕ → Bool
+retired n = eqb n 31
+
+-- no refusal has the number 0, which says that none applies, or one that is retired
+abbrev pub numbered : List Refusal → Bool
+numbered [] = true
+numbered (r ∷ rs) = not (eqb (r .number) 0) && (not (retired (r .number)) && numbered rs)
 
 -- a where nothing is refused, and else b
 unfoldable pub unless : {A : Type 0} → ℕ → A → A → A

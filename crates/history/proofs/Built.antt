@@ -1,5 +1,5 @@
 -- The account that is built from a trace in linear time is document 01's account of it. Assumes nothing.
-use Prim.Native.Nat.{ℕ, zero, suc, pred, _+_, _≤_}
+use Prim.Native.Nat.{ℕ, zero, suc, pred, _+_, _*_, _≤_}
 use native.Mathlib.Nat.{add-zero, zero-add}
 use native.Mathlib.Omega.{arith}
 use mathlib.Core.Path.{_≡_, refl, sym, ap, _∙_}
@@ -17,16 +17,15 @@ use Rattle.figure.specs.Account.{Item, Book, trace, blank, book, account, floor
 use Rattle.figure.specs.Ledger.{takenAt}
 use Rattle.figure.proofs.Serial.{inv-fresh}
 use Rattle.lists.specs.Bytes.{rows}
-use Rattle.lists.proofs.Rows.{rows-append}
+use Rattle.lists.proofs.Rows.{rows-append, length-rows}
 use Rattle.sort.specs.Order.{addIf, inSlot, sortedBelow}
 use Rattle.sort.proofs.Sorted.{start-le}
-use Rattle.lists.specs.Line.{lineBytes, noNumber}
+use Rattle.lists.specs.Line.{lineWidth, lineBytes, noNumber}
 use Rattle.demands.specs.Lines.{itemRecord, itemBytes, slotLines, accountBytes}
 use Rattle.demands.proofs.Lengths.{length-slots, length-account}
 use Rattle.history.specs.Pieces.{tailKey, ledgerAt, keysOf, orderOf, lowestFloor, lineOf, numberIn, placedLine}
 use Rattle.history.proofs.Bounds.{ledger-small, keys-long, lowest-most, lowest-alike}
 use Rattle.history.proofs.Fitting.{FitsEach, eventsBelow, book-is, fits-run}
-use Rattle.history.proofs.LineLaws.{length-placed}
 use Rattle.history.proofs.Placing.{Placed, placed, lineEvent}
 use Rattle.history.proofs.Waiting.{tail-items}
 
@@ -45,6 +44,9 @@ bookBelow x n = book 0 (eventsBelow x n) blank
 -- a record and its number
 abbrev numbered : ℕ → Record → List ℕ
 numbered k r = lineBytes (record { event = r; number = record { 0 = k } })
+
+length-placed : (x : ℕ → Record) (keys js : List ℕ) → length (rows (placedLine x keys) js) ≡ lineWidth * length js
+length-placed x keys js = length-rows (placedLine x keys) lineWidth (λ j. refl) js
 
 rows-map : {A B : Type 0} (f : B → List ℕ) (g : A → B) (l : List A) → rows (λ (y : A). f (g y)) l ≡ rows f (map g l)
 unfolding rows

@@ -1,13 +1,10 @@
 pub mod Marking
 pub mod Firsts
-pub mod Testing
-pub mod LineLaws
 pub mod Fitting
 pub mod Placing
 pub mod Bounds
 pub mod Waiting
 pub mod Built
-pub mod Addresses
 pub mod Whole
 pub mod Handing
 pub mod Traces

@@ -18,7 +18,6 @@ use Rattle.lists.proofs.Actions.{getD-actions}
 use Rattle.lists.proofs.Things.{things-more, things-rows}
 use Rattle.lists.proofs.Numbers.{record-drop}
 use Rattle.lists.proofs.Codecs.{record-lawful}
-use Rattle.lists.proofs.Rows.{length-rows}
 use Rattle.lists.proofs.Sized.{sized}
 use Rattle.lists.proofs.Table.{part-in, part-is}
 use Rattle.shape.specs.Fresh.{freshOf, freshRefused}
@@ -33,9 +32,6 @@ pub records-each : (bytes : List ℕ) (n : ℕ) → recordsBelow (actionAt bytes
 unfolding recordsBelow thingsAt
 records-each bytes zero = refl
 records-each bytes (suc n) = rw (things-more recordCodec bytes 0 n, records-each bytes n, zero-add (recordWidth * n))
-
-pub run-bytes-long : (list : List ℕ) → length (rows recordBytes (runTrace list)) ≡ recordWidth * readOf list .actions
-run-bytes-long list = length-rows recordBytes recordWidth (λ r. refl) (runTrace list) ∙ ap (λ (n : ℕ). recordWidth * n) (length-run list)
 
 -- what the run reads back off the bytes that tracing left is the run's trace
 pub traced-records : (list t t′ : List ℕ) → t′ ≡ laid (rows recordBytes (runTrace list)) t → recordsBelow (actionAt t′) (readOf list .actions) ≡ runTrace list

@@ -12,12 +12,12 @@ use Rattle.lists.specs.Bytes.{rows}
 use Rattle.lists.specs.Read.{readOf}
 use Rattle.lists.proofs.Sized.{Sized, sized}
 use Rattle.demands.specs.Lines.{accountBytes}
-use Rattle.demands.specs.Run.{runSizes, runTrace, runBook, acceptedIn, refusedIn, countsAs}
+use Rattle.demands.specs.Run.{runSizes, runMemory, runTrace, runBook, runAccount, acceptedIn, refusedIn, countsAs}
 use Rattle.demands.specs.declared.Counts.{Counts}
 use Rattle.demands.proofs.Lengths.{all-counted}
 use Rattle.demands.proofs.Runs.{run-events}
-use Rattle.demands.specs.Demand.{runMemory, runSteps}
-use Rattle.history.specs.Pieces.{recordsBelow, keysOf, orderOf, placedLine, Accounted}
+use Rattle.demands.specs.Demand.{runSteps}
+use Rattle.history.specs.Pieces.{recordsBelow, keysOf, orderOf, placedLine, Arranged}
 use Rattle.history.proofs.Bounds.{records-long}
 use Rattle.history.proofs.Built as built
 use Rattle.history.proofs.Built.{Run}
@@ -51,19 +51,19 @@ module _ (list : List ℕ) (ok : readOf list .number ≡ 0) (x : ℕ → Record)
   pub account-bytes : rows (placedLine x (keysOf x n)) (orderOf x n (z .engines)) ≡ accountBytes z (runBook list)
   account-bytes = sym (built.account-is run) ∙ ap (accountBytes z) book-is
 
-  pub events-most : length (account z (runBook list)) ≤ n
+  pub events-most : length (runAccount list) ≤ n
   events-most = rw (ap (λ (b : Book). length (account z b)) book-is) at (built.account-most run)
 
   refused-are : n - acceptedIn (runTrace list) ≡ refusedIn (runTrace list)
   refused-are = omega (arith, all-counted (runTrace list), ap length recs, records-long x n)
 
   -- what the run's pieces count
-  pub counts-are : (a : List ℕ) (r : Counts) (a′ : List ℕ) → Accounted x n z a r a′ → r ≡ countsAs 0 list
-  counts-are a r a′ h =
+  pub counts-are : {r : Counts} {keys′ sorted′ : List ℕ} → Arranged x n z r keys′ sorted′ → r ≡ countsAs 0 list
+  counts-are {r} h =
       let p0 : r .number ≡ 0 = h .number in
       let p1 : r .accepted ≡ acceptedIn (runTrace list) = h .accepted ∙ ap acceptedIn recs in
       let p2 : r .refused ≡ refusedIn (runTrace list) = h .refused ∙ (ap (λ (l : List Record). n - acceptedIn l) recs ∙ refused-are) in
-      let p3 : r .events ≡ length (account z (runBook list)) = h .events ∙ (sym (built.account-long run) ∙ ap (λ (b : Book). length (account z b)) book-is) in
+      let p3 : r .events ≡ length (runAccount list) = h .events ∙ (sym (built.account-long run) ∙ ap (λ (b : Book). length (account z b)) book-is) in
       let p4 : r .settled ≡ length (settled z (runBook list)) = h .settled ∙ (sym (built.settled-long run) ∙ ap (λ (b : Book). length (settled z b)) book-is) in
-      let g : five (r .number) (r .accepted) (r .refused) (r .events) (r .settled) ≡ five 0 (acceptedIn (runTrace list)) (refusedIn (runTrace list)) (length (account z (runBook list))) (length (settled z (runBook list))) = cc in
+      let g : five (r .number) (r .accepted) (r .refused) (r .events) (r .settled) ≡ five 0 (acceptedIn (runTrace list)) (refusedIn (runTrace list)) (length (runAccount list)) (length (settled z (runBook list))) = cc in
       g

@@ -6,12 +6,13 @@ ghost use Rattle.lists.specs.Bytes.{rows, laid};
 ghost use Rattle.lists.specs.Read.{memoryTable};
 ghost use Rattle.lists.specs.Record.{recordBytes};
 ghost use Rattle.shape.specs.Turns.{actionAt};
-ghost use Rattle.history.specs.Pieces.{Admitted, Scratch, Traceable, Accounted, Handable, Handed, refusedCounts};
+ghost use Rattle.history.specs.Pieces.{Admitted, Scratch, Arrangeable, Arranged, Handable, Handed, refusedCounts};
 ghost use Rattle.demands.specs.Run.{runTrace, Ran};
 use demands::Counts;
 use figure::ADDRESSES;
 use figure::Sizes;
 use lists::bytes::RECORD;
+use lists::line::LINE;
 use lists::reader::Layout;
 
 mod lines;
@@ -75,7 +76,6 @@ fn run_64(list: &[u8], l: Layout, trace: &mut [u8], account: &mut [u8]) -> Count
     ensures { λ r. ⌜ Ran (now (list .entry)) (now (trace .entry)) (now (account .entry)) r (now (trace .exit)) (now (account .exit)) ⌝ }
 {
     let mut t = [0u8; 512];
-    let mut a = [0u8; 768];
     let mut keys = [0u16; 64];
     let mut sorted = [0u16; 64];
     let mut counts = [0u16; 73];
@@ -83,7 +83,6 @@ fn run_64(list: &[u8], l: Layout, trace: &mut [u8], account: &mut [u8]) -> Count
         list,
         l,
         &mut t,
-        &mut a,
         &mut keys,
         &mut sorted,
         &mut counts,
@@ -97,7 +96,6 @@ fn run_128(list: &[u8], l: Layout, trace: &mut [u8], account: &mut [u8]) -> Coun
     ensures { λ r. ⌜ Ran (now (list .entry)) (now (trace .entry)) (now (account .entry)) r (now (trace .exit)) (now (account .exit)) ⌝ }
 {
     let mut t = [0u8; 1024];
-    let mut a = [0u8; 1536];
     let mut keys = [0u16; 128];
     let mut sorted = [0u16; 128];
     let mut counts = [0u16; 137];
@@ -105,7 +103,6 @@ fn run_128(list: &[u8], l: Layout, trace: &mut [u8], account: &mut [u8]) -> Coun
         list,
         l,
         &mut t,
-        &mut a,
         &mut keys,
         &mut sorted,
         &mut counts,
@@ -119,7 +116,6 @@ fn run_256(list: &[u8], l: Layout, trace: &mut [u8], account: &mut [u8]) -> Coun
     ensures { λ r. ⌜ Ran (now (list .entry)) (now (trace .entry)) (now (account .entry)) r (now (trace .exit)) (now (account .exit)) ⌝ }
 {
     let mut t = [0u8; 2048];
-    let mut a = [0u8; 3072];
     let mut keys = [0u16; 256];
     let mut sorted = [0u16; 256];
     let mut counts = [0u16; 265];
@@ -127,7 +123,6 @@ fn run_256(list: &[u8], l: Layout, trace: &mut [u8], account: &mut [u8]) -> Coun
         list,
         l,
         &mut t,
-        &mut a,
         &mut keys,
         &mut sorted,
         &mut counts,
@@ -141,7 +136,6 @@ fn run_512(list: &[u8], l: Layout, trace: &mut [u8], account: &mut [u8]) -> Coun
     ensures { λ r. ⌜ Ran (now (list .entry)) (now (trace .entry)) (now (account .entry)) r (now (trace .exit)) (now (account .exit)) ⌝ }
 {
     let mut t = [0u8; 4096];
-    let mut a = [0u8; 6144];
     let mut keys = [0u16; 512];
     let mut sorted = [0u16; 512];
     let mut counts = [0u16; 521];
@@ -149,7 +143,6 @@ fn run_512(list: &[u8], l: Layout, trace: &mut [u8], account: &mut [u8]) -> Coun
         list,
         l,
         &mut t,
-        &mut a,
         &mut keys,
         &mut sorted,
         &mut counts,
@@ -163,7 +156,6 @@ fn run_1024(list: &[u8], l: Layout, trace: &mut [u8], account: &mut [u8]) -> Cou
     ensures { λ r. ⌜ Ran (now (list .entry)) (now (trace .entry)) (now (account .entry)) r (now (trace .exit)) (now (account .exit)) ⌝ }
 {
     let mut t = [0u8; 8192];
-    let mut a = [0u8; 12288];
     let mut keys = [0u16; 1024];
     let mut sorted = [0u16; 1024];
     let mut counts = [0u16; 1033];
@@ -171,7 +163,6 @@ fn run_1024(list: &[u8], l: Layout, trace: &mut [u8], account: &mut [u8]) -> Cou
         list,
         l,
         &mut t,
-        &mut a,
         &mut keys,
         &mut sorted,
         &mut counts,
@@ -185,7 +176,6 @@ fn run_2048(list: &[u8], l: Layout, trace: &mut [u8], account: &mut [u8]) -> Cou
     ensures { λ r. ⌜ Ran (now (list .entry)) (now (trace .entry)) (now (account .entry)) r (now (trace .exit)) (now (account .exit)) ⌝ }
 {
     let mut t = [0u8; 16384];
-    let mut a = [0u8; 24576];
     let mut keys = [0u16; 2048];
     let mut sorted = [0u16; 2048];
     let mut counts = [0u16; 2057];
@@ -193,7 +183,6 @@ fn run_2048(list: &[u8], l: Layout, trace: &mut [u8], account: &mut [u8]) -> Cou
         list,
         l,
         &mut t,
-        &mut a,
         &mut keys,
         &mut sorted,
         &mut counts,
@@ -207,14 +196,13 @@ fn run_in(
     list: &[u8],
     l: Layout,
     t: &mut [u8],
-    a: &mut [u8],
     keys: &mut [u16],
     sorted: &mut [u16],
     counts: &mut [u16],
     trace: &mut [u8],
     account: &mut [u8],
 ) -> Counts
-    requires { ⌜ Scratch (now list) l (now trace) (now t) (now a) (now keys) (now sorted) (now counts) ⌝ }
+    requires { ⌜ Scratch (now list) l (now trace) (now t) (now keys) (now sorted) (now counts) ⌝ }
     ensures { λ r. ⌜ Ran (now (list .entry)) (now (trace .entry)) (now (account .entry)) r (now (trace .exit)) (now (account .exit)) ⌝ }
 {
     let n = l.actions;
@@ -222,32 +210,28 @@ fn run_in(
     let m = n + z.engines as usize + 1;
     let table = lists::memory::memory_of(list);
     write_trace(list, l, table, t);
-    let c = write_account(t, z, &mut keys[..n], sorted, &mut counts[..m], a);
-    hand_over(table, t, RECORD * n, a, c, trace, account)
+    let c = arrange(t, z, &mut keys[..n], sorted, &mut counts[..m]);
+    hand_over(t, RECORD * n, &keys[..n], sorted, c, trace, account)
 }
 
-// The account is judged, and both go into the lent buffers; or neither does.
+// Trace and account go into the lent buffers; or, where the account has no room, neither does.
 fn hand_over(
-    table: [u32; ADDRESSES],
     t: &[u8],
     n: usize,
-    a: &[u8],
+    keys: &[u16],
+    sorted: &[u16],
     c: Counts,
     trace: &mut [u8],
     account: &mut [u8],
 ) -> Counts
-    requires { ⌜ Handable (now t) n (now a) c (now trace) ⌝ }
-    ensures { λ r. ⌜ Handed table (now (t .entry)) n (now (a .entry)) c (now (trace .entry)) (now (account .entry)) r (now (trace .exit)) (now (account .exit)) ⌝ }
+    requires { ⌜ Handable (now t) n (now keys) (now sorted) c (now trace) ⌝ }
+    ensures { λ r. ⌜ Handed (now (t .entry)) n (now (keys .entry)) (now (sorted .entry)) c (now (trace .entry)) (now (account .entry)) r (now (trace .exit)) (now (account .exit)) ⌝ }
 {
-    let m = 12 * c.events;
-    if account.len() < m {
+    if account.len() < LINE * c.events {
         return refused(30);
     }
-    if !lines::is_serial(table, a, c.events) {
-        return refused(31);
-    }
     lines::copy_front(t, n, trace);
-    lines::copy_front(a, m, account);
+    lines::put_placed(t, keys, sorted, c.events, account);
     c
 }
 
@@ -262,24 +246,16 @@ fn write_trace(list: &[u8], l: Layout, table: [u32; ADDRESSES], t: &mut [u8])
     store::turns_from_fresh(z, &table[..m], &list[at..], t);
 }
 
-// The account of a trace's first events, an event for each key: one stable sort of all of them.
-fn write_account(
-    t: &[u8],
-    z: Sizes,
-    keys: &mut [u16],
-    sorted: &mut [u16],
-    counts: &mut [u16],
-    a: &mut [u8],
-) -> Counts
-    requires { ⌜ Traceable z (now keys) (now sorted) (now counts) (now a) ⌝ }
-    ensures { λ r. ⌜ Accounted (actionAt (now (t .entry))) (length (now (keys .entry))) z (now (a .entry)) r (now (a .exit)) ⌝ }
+// The order of the account, an index for each of its events, and its counts: one stable sort of the trace's first events, a key for each.
+fn arrange(t: &[u8], z: Sizes, keys: &mut [u16], sorted: &mut [u16], counts: &mut [u16]) -> Counts
+    requires { ⌜ Arrangeable z (now keys) (now sorted) (now counts) ⌝ }
+    ensures { λ r. ⌜ Arranged (actionAt (now (t .entry))) (length (now (keys .entry))) z r (now (keys .exit)) (now (sorted .exit)) ⌝ }
 {
     let published = marks::publications(t, keys.len());
     let tally = marks::mark_all(t, published, keys);
     let ledger = tally.ledger;
     let low = marks::lowest_floor(ledger, z.engines);
     let placed = sort::order(keys, counts, sorted);
-    lines::put_placed(t, keys, sorted, placed, a);
     let accepted = tally.accepted;
     let at = low.0 as usize;
     Counts {

@@ -7,9 +7,8 @@ ghost use Rattle.figure.specs.Ledger.{wn};
 ghost use Rattle.figure.specs.Refusals.{pick};
 ghost use Rattle.lists.specs.Bytes.{put, rows, laid};
 ghost use Rattle.lists.specs.Line.{lineWidth};
-ghost use Rattle.history.specs.Pieces.{lineOf, numberIn, placedLine, serialLines, Placing};
+ghost use Rattle.history.specs.Pieces.{lineOf, numberIn, placedLine, Placing};
 ghost use Rattle.shape.specs.Turns.{actionAt};
-use figure::ADDRESSES;
 use figure::Engine;
 use figure::Record;
 use figure::WriteNumber;
@@ -60,8 +59,8 @@ fn number_in(n: usize, key: u16) -> WriteNumber
 
 // The first n indices of the order, each event's line.
 pub fn put_placed(trace: &[u8], keys: &[u16], order: &[u16], n: usize, out: &mut [u8])
-    requires { ⌜ Placing (now keys) (now order) n (length (now out)) ⌝ }
-    ensures { λ _. ⌜ now (out .exit) ≡ put (now (out .entry)) 0 (rows (placedLine (actionAt (now (trace .entry))) (now (keys .entry))) (take n (now (order .entry)))) ⌝ }
+    requires { ⌜ Placing (now keys) (now order) n × (lineWidth * n ≤ length (now out)) ⌝ }
+    ensures { λ _. ⌜ now (out .exit) ≡ laid (rows (placedLine (actionAt (now (trace .entry))) (now (keys .entry))) (take n (now (order .entry)))) (now (out .entry)) ⌝ }
 {
     let mut p = 0;
     while p < n {
@@ -71,29 +70,6 @@ pub fn put_placed(trace: &[u8], keys: &[u16], order: &[u16], n: usize, out: &mut
         put_line(out, LINE * p, e, number);
         p += 1;
     }
-}
-
-// On one plain memory every read of the first n lines gets its value.
-pub fn is_serial(table: [u32; ADDRESSES], lines: &[u8], n: usize) -> bool
-    requires { ⌜ lineWidth * n ≤ length (now lines) ⌝ }
-    ensures { λ r. ⌜ r ≡ serialLines table (now (lines .entry)) 0 n ⌝ }
-{
-    let mut memory = table;
-    let mut p = 0;
-    while p < n {
-        let e = lists::bytes::record_at(lines, LINE * p);
-        let a = e.address.0 as usize;
-        if ADDRESSES <= a {
-            return false;
-        }
-        if e.kind == 2 {
-            memory[a] = e.data;
-        } else if memory[a] != e.data {
-            return false;
-        }
-        p += 1;
-    }
-    true
 }
 
 // The first n bytes of src over the front of dst.

@@ -8,18 +8,17 @@ use lib.ListN.{length}
 use lib.Dec.{ltb}
 use borrow.Author.Tests.{ltb-false, eqb-true, not-false}
 use Rattle.figure.specs.declared.Sizes.{Sizes}
-use Rattle.figure.specs.Refusals.{firstOf, outside, sizesRefused, mostEngines, mostAddresses, mostDepth, mostActions, NoneApplies}
-use Rattle.figure.proofs.First.{Passed, testAt, refusalAt, first-at, Numbered, first-none, none-first, sizes-numbered, numbered-append, none-split}
+use Rattle.figure.specs.Refusals.{firstOf, NoneApplies, numbered, outside, sizesRefused, mostEngines, mostAddresses, mostDepth, mostActions}
+use Rattle.figure.proofs.First.{first-none, none-first, sizes-numbered, none-split}
 use Rattle.lists.specs.Bytes.{u32At}
 use Rattle.lists.specs.Record.{recordWidth}
 use Rattle.lists.specs.declared.reader.Layout.{Layout}
 use Rattle.lists.specs.Read.{version, headerWidth, versionAt, sizesAt, afterHeader, afterMemory, readRefused, refusedAs, takenAs, layoutOf, readOf}
 
 -- ---- the reader refuses exactly if a rule of its list applies
-pub read-numbered : (s : List ℕ) → Numbered (readRefused s)
-unfolding readRefused
-read-numbered s =
-    (λ e. omega arith, (λ e. omega arith, (λ e. omega arith, numbered-append (sizesRefused (sizesAt s)) _ (sizes-numbered (sizesAt s)) (λ e. omega arith, (λ e. omega arith, (λ e. omega arith, tt))))))
+pub read-numbered : (s : List ℕ) → numbered (readRefused s) ≡ true
+unfolding readRefused sizesRefused
+read-numbered s = refl
 
 number-is : (n : ℕ) (s : List ℕ) → layoutOf n s .number ≡ n
 unfolding layoutOf
@@ -39,9 +38,6 @@ read-refused s r h n = at (firstOf (readRefused s)) h
     at : (k : ℕ) → r ≡ layoutOf k s → r ≡ refusedAs (r .number)
     at zero e = absurd (n (ap (λ (l : Layout). l .number) e))
     at (suc k) e = e ∙ ap refusedAs (sym (ap (λ (l : Layout). l .number) e))
-
-pub read-first : (s : List ℕ) (k : ℕ) → Passed k (readRefused s) → testAt k (readRefused s) ≡ true → readOf s .number ≡ refusalAt k (readRefused s)
-read-first s k h e = read-number s ∙ first-at k (readRefused s) h e
 
 pub taken-none : (s : List ℕ) → readOf s .number ≡ 0 → NoneApplies (readRefused s)
 taken-none s h = none-first (readRefused s) (read-numbered s) (sym (read-number s) ∙ h)

@@ -1,13 +1,14 @@
 -- What the writer's number says of its arguments, and the two cases of its contract. Assumes nothing.
 use mathlib.Core.Path.{_≡_, refl, sym, ap, _∙_}
+use mathlib.Core.Bool.{true}
 use mathlib.Core.List.{List, []}
 use Prim.Native.Nat.{ℕ, zero, suc, _+_, _*_, _/_, _%_, _≤_}
 use native.Mathlib.Omega.{arith}
 use lib.ListN.{length}
 use borrow.Author.Tests.{ltb-false, le-ltb, eqb-true, not-false}
 use Rattle.figure.specs.declared.Sizes.{Sizes}
-use Rattle.figure.specs.Refusals.{firstOf, unless, sizesRefused, mostAddresses, mostActions, NoneApplies}
-use Rattle.figure.proofs.First.{Numbered, first-none, none-first, sizes-numbered, numbered-append, none-append, none-split, same-not}
+use Rattle.figure.specs.Refusals.{firstOf, NoneApplies, numbered, unless, sizesRefused, mostAddresses, mostActions}
+use Rattle.figure.proofs.First.{first-none, none-first, sizes-numbered, none-append, none-split, same-not}
 use Rattle.lists.specs.Bytes.{laid}
 use Rattle.lists.specs.Record.{recordWidth}
 use Rattle.lists.specs.Read.{headerWidth, listBytes}
@@ -28,10 +29,9 @@ pub record Writable (z : Sizes) (memory actions : List ℕ) (room : ℕ) : Type 
   pub fits : length (listBytes z memory actions) ≤ room
 
 module _ (z : Sizes) (memory actions : List ℕ) (room : ℕ) where
-  pub write-numbered : Numbered (writeRefused z memory actions room)
-  unfolding writeRefused
-  write-numbered =
-      numbered-append (sizesRefused z) (partsRefused z memory actions room) (sizes-numbered z) (λ e. omega arith, (λ e. omega arith, (λ e. omega arith, (λ e. omega arith, tt))))
+  pub write-numbered : numbered (writeRefused z memory actions room) ≡ true
+  unfolding writeRefused sizesRefused
+  write-numbered = refl
 
   pub writable : firstOf (writeRefused z memory actions room) ≡ 0 → Writable z memory actions room
   unfolding writeRefused

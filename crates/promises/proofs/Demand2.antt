@@ -1,19 +1,19 @@
 -- Demand 2 holds of the calls. Assumes nothing.
 use mathlib.Core.Path.{_≡_, refl, sym, ap, _∙_}
+use mathlib.Core.Bool.{true}
 use mathlib.Core.List.{List}
 use Prim.Native.Nat.{ℕ, zero, _*_, _≤_}
-use native.Mathlib.Omega.{arith}
 use denote.Array.{Array}
 use denote.Builtin.{u8}
 use denote.Ref.{now}
 use lib.ListN.{length, take}
 use Rattle.shape.proofs as shape
-use Rattle.demands.proofs.Demands.{run-refuses, run-numbered, not-31, reader-took, run-trace}
+use Rattle.demands.proofs.Demands.{run-refuses, run-numbered, reader-took, run-trace}
 use Rattle.demands.proofs.Runs.{fresh-taken}
 use Rattle.demands.specs.Run.{runSizes, runFresh, runAction, runTrace, Ran}
 use Rattle.demands.specs.declared.Counts.{Counts}
-use Rattle.figure.proofs.First.{Numbered, first-none, none-first}
-use Rattle.figure.specs.Refusals.{Refusal, firstOf, unless}
+use Rattle.figure.proofs.First.{first-none, none-first}
+use Rattle.figure.specs.Refusals.{Refusal, firstOf, numbered, unless}
 use Rattle.figure.specs.declared.Record.{Record}
 use Rattle.figure.specs.declared.Sizes.{Sizes}
 use Rattle.lists.proofs.RoundTrip.{reads-back, writes-back}
@@ -41,8 +41,8 @@ use Rattle.promises.proofs.Typed.{of-shaped, of-bytes}
 use Rattle.promises.specs.Demand2.{Value, OnSound, Judged, Chain, start, after, Demand2}
 
 -- a number that is the first of the rules' is judged by them
-judged : (rules : List Refusal) {n : ℕ} → Numbered rules → n ≡ firstOf rules → Judged rules n
-judged rules u e = record { first = e; none = λ z. none-first rules u (sym e ∙ z); zero = λ k. e ∙ first-none rules k }
+judged : (rules : List Refusal) {n : ℕ} → numbered rules ≡ true → n ≡ firstOf rules → Judged rules n
+judged rules u e = record { first = e; none = λ z. none-first rules u (sym e ∙ z); zero = λ k. e ∙ first-none rules k; numbers = u }
 
 step-judged : (s : Store) (x : Record) {n : ℕ} → n ≡ stepped s x .number → Judged (stepRefused s x) n
 step-judged s x e = judged (stepRefused s x) (step-numbered s x) (e ∙ step-number s x)
@@ -94,7 +94,6 @@ demand-two =
       read-judges = λ κs a r e h. judged _ (read-numbered (now (a .0))) (ap (λ (u : Layout). u .number) h ∙ read-number (now (a .0)));
       write-judges = λ κs a r e h. judged _ (write-numbered (a .0) (now (a .1 .0)) (now (a .1 .1 .0)) (length (now (a .1 .1 .1 .0)))) (h .number-is);
       run-judges = λ κs a r e h. judged _ (run-numbered (now (a .0)) (length (now (a .1 .0))) (length (now (a .1 .1 .0)))) (run-refuses h);
-      never-31 = λ κs a r e h. not-31 h;
       in-turn = λ κs a r e h κs₂ b m e₂ k. in-turn h k;
       turns-in-turn = λ κs a r e h κs₂ b m e₂ k. turns-in-turn h k;
       written-reads-back = λ κs a r e h. reads-back h;

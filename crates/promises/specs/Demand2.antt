@@ -14,7 +14,7 @@ use mir.Val.{Val}
 use Rattle.shape.proofs as shape
 use Rattle.store.proofs as store
 use Rattle.demands.specs.Run.{runSizes, runAction, runRefused}
-use Rattle.figure.specs.Refusals.{Refusal, firstOf, NoneApplies}
+use Rattle.figure.specs.Refusals.{Refusal, firstOf, NoneApplies, numbered}
 use Rattle.figure.specs.declared.Record.{Record}
 use Rattle.lists.specs.Bytes.{rows, laid}
 use Rattle.lists.specs.Read.{readRefused, readOf, memoryOf, actionBytesOf, memoryTable}
@@ -46,6 +46,8 @@ pub record Judged (rules : List Refusal) (n : ℕ) : Type 0 where
   pub first : n ≡ firstOf rules
   pub none : n ≡ 0 → NoneApplies rules
   pub zero : NoneApplies rules → n ≡ 0
+  -- request [10], "Numbers are not used again.": none of the rules' numbers is retired, or 0
+  pub numbers : numbered rules ≡ true
 
 -- what the step in place answers and leaves, as one
 abbrev pub together : Answer → Store → Stepped
@@ -72,9 +74,8 @@ pub record Demand2 : Type 0 where
   pub read-judges : Every-read (λ list r. Judged (readRefused list) (r .number))
   -- 4, 5, 6, 10, 8, 9, 30
   pub write-judges : Every-write (λ z memory actions out r out′. Judged (writeRefused z memory actions (length out)) (r .number))
-  -- 1 to 9, 29, 30, 31; and 31 never comes
+  -- 1 to 9, 29, 30
   pub run-judges : Every-run (λ list trace account r trace′ account′. Judged (runRefused list (length trace) (length account)) (r .number))
-  pub never-31 : Every-run (λ list trace account r trace′ account′. ¬ (r .number ≡ 31))
   -- "and the run takes each action in turn as that step does"
   pub in-turn : Every-run (λ list trace account r trace′ account′.
       Every-fresh (λ z table m.

@@ -10,10 +10,10 @@ use lib.Seq.{getD-take}
 use borrow.Author.Tests.{ltb-false, lt-ltb, leb-true, leb-false, le-leb, eqb-true, eq-eqb, not-false}
 use Rattle.figure.specs.Figure.{Step, R, W, MW, MR, CU, CI}
 use Rattle.figure.specs.Record.{noRecord}
-use Rattle.figure.specs.Refusals.{firstOf, outside, sizesRefused, NoneApplies}
+use Rattle.figure.specs.Refusals.{firstOf, NoneApplies, numbered, outside, sizesRefused}
 use Rattle.figure.specs.declared.Record.{Record}
 use Rattle.figure.specs.declared.Sizes.{Sizes}
-use Rattle.figure.proofs.First.{Numbered, none-first, first-none, none-split, sizes-numbered}
+use Rattle.figure.proofs.First.{none-first, first-none, none-split, sizes-numbered}
 use Rattle.figure.proofs.Laws.{and-left, and-right}
 use Rattle.shape.proofs.Places.{and-both, or-left, or-right, all-end, all-tail, all-getD, all-replicate, all-change, all-map, take-change, take-firsts, length-tail-le, length-take-most, out-with, in-with}
 use Rattle.shape.proofs.Taken.{Goes, goes-R, goes-W, goes-MW, goes-MR, goes-CU, goes-CI, Answers, takes, keeps, answers}
@@ -190,9 +190,9 @@ refused-keeps s x = answer-refused s (answers s x)
 
 -- ---- fresh stores
 
-pub fresh-numbered : (z : Sizes) (table : List ℕ) → Numbered (freshRefused z table)
+pub fresh-numbered : (z : Sizes) (table : List ℕ) → numbered (freshRefused z table) ≡ true
 unfolding freshRefused sizesRefused
-fresh-numbered z table = omega arith
+fresh-numbered z table = refl
 
 pub fresh-sizes : (z : Sizes) (table : List ℕ) → firstOf (freshRefused z table) ≡ 0 → firstOf (sizesRefused z) ≡ 0
 unfolding freshRefused

@@ -6,14 +6,14 @@ use Prim.Native.Nat.{ℕ, zero, suc}
 use native.Mathlib.Omega.{arith}
 use lib.Dec.{eqb}
 use borrow.Author.Tests.{eqb-true, eqb-false}
-use Rattle.figure.specs.Refusals.{firstOf, NoneApplies}
+use Rattle.figure.specs.Refusals.{firstOf}
 use Rattle.figure.specs.declared.Record.{Record}
 use Rattle.figure.specs.declared.Sizes.{Sizes}
-use Rattle.figure.proofs.First.{Passed, testAt, refusalAt, none-first, first-none, first-at, first-append, first-front}
-use Rattle.shape.proofs.Kept.{fresh-numbered, fresh-short, fresh-sound, zeros-unsound}
+use Rattle.figure.proofs.First.{first-append, first-front}
+use Rattle.shape.proofs.Kept.{fresh-short, fresh-sound, zeros-unsound}
 use Rattle.shape.proofs.Shaped.{fresh-shaped}
 use Rattle.shape.specs.Shaped.{Shaped}
-use Rattle.shape.proofs.Taken.{form-numbered, step-numbered}
+use Rattle.shape.proofs.Taken.{form-numbered}
 use Rattle.shape.specs.Fresh.{freshOf, zeros, freshRefused, made, madeAs}
 use Rattle.shape.specs.Sound.{soundOf}
 use Rattle.shape.specs.Step.{formRefused, turnRefused, stepRefused, answered, stepped, actionOf}
@@ -29,17 +29,6 @@ module _ (s : Store) (x : Record) where
   pub step-number : stepped s x .number ≡ firstOf (stepRefused s x)
   unfolding stepped
   step-number = answered-number (firstOf (stepRefused s x)) s x
-
-  -- "the first that applies, in the table's order": the refusal at place k applies, and none before it
-  pub step-first : (k : ℕ) → Passed k (stepRefused s x) → testAt k (stepRefused s x) ≡ true → stepped s x .number ≡ refusalAt k (stepRefused s x)
-  step-first k p e = step-number ∙ first-at k (stepRefused s x) p e
-
-  -- "0 if none does", and only then
-  pub step-zero : NoneApplies (stepRefused s x) → stepped s x .number ≡ 0
-  step-zero h = step-number ∙ first-none (stepRefused s x) h
-
-  pub zero-step : stepped s x .number ≡ 0 → NoneApplies (stepRefused s x)
-  zero-step e = none-first (stepRefused s x) (step-numbered s x) (sym step-number ∙ e)
 
   -- 17 of an unsound state; of a sound one 11 to 14, then 21 to 28
   pub unsound-number : soundOf s ≡ false → stepped s x .number ≡ 17
@@ -67,15 +56,6 @@ module _ (z : Sizes) (table : List ℕ) where
   pub made-number : made z table .number ≡ firstOf (freshRefused z table)
   unfolding made
   made-number = made-cases (firstOf (freshRefused z table)) .0
-
-  pub made-first : (k : ℕ) → Passed k (freshRefused z table) → testAt k (freshRefused z table) ≡ true → made z table .number ≡ refusalAt k (freshRefused z table)
-  made-first k p e = made-number ∙ first-at k (freshRefused z table) p e
-
-  pub made-zero : NoneApplies (freshRefused z table) → made z table .number ≡ 0
-  made-zero h = made-number ∙ first-none (freshRefused z table) h
-
-  pub zero-made : made z table .number ≡ 0 → NoneApplies (freshRefused z table)
-  zero-made e = none-first (freshRefused z table) (fresh-numbered z table) (sym made-number ∙ e)
 
   pub made-store : made z table .number ≡ 0 → made z table .store ≡ freshOf z table
   unfolding made

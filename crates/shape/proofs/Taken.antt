@@ -7,10 +7,10 @@ use lib.Dec.{eqb, ltb}
 use borrow.Author.Tests.{ltb-false, leb-false, eqb-true, eqb-false, not-false}
 use Rattle.figure.specs.Figure.{Step, R, W, MW, MR, CU, CI}
 use Rattle.figure.specs.Record.{noRecord}
-use Rattle.figure.specs.Refusals.{firstOf, outside, NoneApplies}
+use Rattle.figure.specs.Refusals.{firstOf, NoneApplies, numbered, outside}
 use Rattle.figure.specs.declared.Record.{Record}
 use Rattle.figure.specs.declared.Sizes.{Sizes}
-use Rattle.figure.proofs.First.{Numbered, none-first, none-split}
+use Rattle.figure.proofs.First.{none-first, none-split}
 use Rattle.figure.proofs.Laws.{and-left, and-right}
 use Rattle.shape.proofs.Places.{or-right}
 use Rattle.shape.specs.Parts.{ownWaits, inCache}
@@ -68,9 +68,9 @@ form z o (suc (suc (suc (suc (suc (suc (suc k))))))) (suc i) a d h =
     let e : suc (suc (suc (suc (suc (suc (suc k)))))) ≤ 6 = ltb-false 6 _ (or-right (ltb (suc (suc (suc (suc (suc (suc (suc k))))))) 1) _ (h .0)) in
     absurd (omega arith)
 
-pub form-numbered : (z : Sizes) (x : Record) → Numbered (formRefused z x)
+pub form-numbered : (z : Sizes) (x : Record) → numbered (formRefused z x) ≡ true
 unfolding formRefused
-form-numbered z x = omega arith
+form-numbered z x = refl
 
 asks : (z : Sizes) (x : Record) → NoneApplies (formRefused z x) → Asks z x (actionOf x)
 asks z x = form z (x .origin .0) (x .kind) (x .engine .0) (x .address .0) (x .«data»)
@@ -108,18 +108,18 @@ pub data Answers (s : Store) (x : Record) : Stepped → Type 0 where
   takes : soundOf s ≡ true → Goes s x (actionOf x) → Answers s x (record { number = 0; store = effect s (actionOf x); event = eventOf s x (actionOf x) })
   keeps : (n : ℕ) → Answers s x (record { number = suc n; store = s; event = noRecord })
 
-pub turn-numbered : (s : Store) (t : Step) → Numbered (turnRefused s t)
+pub turn-numbered : (s : Store) (t : Step) → numbered (turnRefused s t) ≡ true
 unfolding turnRefused
-turn-numbered s (R i a) = omega arith
-turn-numbered s (W i a d) = omega arith
-turn-numbered s (MW i) = omega arith
-turn-numbered s (MR i a) = omega arith
-turn-numbered s (CU i) = omega arith
-turn-numbered s (CI i a) = tt
+turn-numbered s (R i a) = refl
+turn-numbered s (W i a d) = refl
+turn-numbered s (MW i) = refl
+turn-numbered s (MR i a) = refl
+turn-numbered s (CU i) = refl
+turn-numbered s (CI i a) = refl
 
-pub step-numbered : (s : Store) (x : Record) → Numbered (stepRefused s x)
+pub step-numbered : (s : Store) (x : Record) → numbered (stepRefused s x) ≡ true
 unfolding formRefused stepRefused
-step-numbered s x = (omega arith, (omega arith, (omega arith, (omega arith, (omega arith, turn-numbered s (actionOf x))))))
+step-numbered s x = turn-numbered s (actionOf x)
 
 answers-at : (s : Store) (x : Record) (n : ℕ) → firstOf (stepRefused s x) ≡ n → Answers s x (answered n s x)
 unfolding stepRefused

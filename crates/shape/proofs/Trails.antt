@@ -1,4 +1,4 @@
--- Many steps of a store are a run over a list: its trace record by record, and actions that are alike leave one store and one trace. Assumes nothing.
+-- Many steps of a store are a run over a list: its trace record by record, and actions that are alike leave one trace. Assumes nothing.
 use mathlib.Core.Path.{_≡_, refl, sym, ap, _∙_}
 use mathlib.Core.List.{List, []}
 use Prim.Native.Nat.{ℕ, zero, suc, _<_}
@@ -43,9 +43,6 @@ module _ (s : Store) (x : ℕ → Record) (n : ℕ) where
   trace-at = built-at (λ k. next-record (storeAfter s x k) (x k)) (traceAfter s x) refl (λ k. refl) n
 
 module _ (s : Store) (x y : ℕ → Record) (n : ℕ) (same : (k : ℕ) → k < n → x k ≡ y k) where
-  pub store-alike : storeAfter s x n ≡ storeAfter s y n
-  store-alike = store-trail s x n ∙ (ap (runs next-store s) (below-alike x y n same) ∙ sym (store-trail s y n))
-
   pub trace-alike : traceAfter s x n ≡ traceAfter s y n
   trace-alike = trace-trail s x n ∙ (ap (tape next-store next-record s) (below-alike x y n same) ∙ sym (trace-trail s y n))
 

@@ -14,12 +14,9 @@ slice-aggregate-run-in-3 c = search needs
 slice-aggregate-run-in-4 : tie.Need-slice-aggregate-run-in-4
 slice-aggregate-run-in-4 c = search needs
 
-slice-aggregate-run-in-5 : tie.Need-slice-aggregate-run-in-5
-slice-aggregate-run-in-5 c = search needs
-
 run-in-requires : tie.Need-run-in-requires
 run-in-requires c κs =
-    record { admitted = search needs; trace-fits = search needs; account-fits = search needs; keys-fit = search needs; order-fits = search needs; counts-fit = search needs }
+    record { admitted = search needs; trace-fits = search needs; keys-fit = search needs; order-fits = search needs; counts-fit = search needs }
 
 same-length : tie.Need-same-length
 same-length c = search needs
@@ -38,7 +35,6 @@ run-2048-spec =
     slice-aggregate-run-in-2
     slice-aggregate-run-in-3
     slice-aggregate-run-in-4
-    slice-aggregate-run-in-5
     run-in-requires
     same-length
     same-length-2

@@ -1,17 +1,16 @@
 use Prim.Native.Nat.{_-_}
 use native.Mathlib.Omega.{arith}
 use borrow.Author.Needs.{needs}
-use mathlib.Core.Path.{_≡_, refl, _∙_}
-use lib.ListN.{length, take, getD}
+use mathlib.Core.Path.{refl}
+use lib.ListN.{getD}
 use denote.Ref.{now}
-use Rattle.lists.proofs.Put.{put-front}
 use Rattle.lists.proofs.Rows.{one, rows-of-one, set-put}
 use Rattle.history.proofs.Firsts.{Firsts, firsts-none, firsts-long, firsts-room, firsts-more, firsts-all}
 use Rattle.history.proofs.lines.copy_front.Statement.{statement}
 use Rattle.history.proofs.lines.copy_front.Tie as tie
 
 abbrev Inv-loop : tie.InvT-loop
-Inv-loop src n dst₀ i₀ dst i = Firsts one 1 n src dst₀ 0 dst i
+Inv-loop src n dst₀ i₀ dst i = Firsts one 1 n src dst₀ dst i
 
 abbrev μ-loop : tie.MeasureT-loop
 μ-loop src n dst₀ i₀ dst i = n - i
@@ -42,10 +41,7 @@ same-length : tie.Need-same-length Inv-loop μ-loop
 same-length c = firsts-long (c .before .loop .inv)
 
 returns : tie.Need-returns Inv-loop μ-loop
-returns c =
-    let a = c .before .before .args in
-    let many : length (take (a .n) (now (a .src))) ≡ a .n = c .before .loop .inv .many in
-    firsts-all (c .before .loop .inv) (omega arith) ∙ rw (rows-of-one) (put-front (now (a .dst)) (take (a .n) (now (a .src))) (omega (arith, c .before .before .pre)))
+returns c = rw (rows-of-one) at (firsts-all (λ x. refl) (c .before .loop .inv) (omega arith))
 
 pub copy-front-spec : {M : Type 1} → statement M
 copy-front-spec =

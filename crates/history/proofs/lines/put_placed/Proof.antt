@@ -10,19 +10,19 @@ use Rattle.history.proofs.lines.put_placed.Statement.{statement}
 use Rattle.history.proofs.lines.put_placed.Tie as tie
 
 abbrev Inv-loop : tie.InvT-loop
-Inv-loop trace keys order n out₀ p₀ out p = Firsts (placedLine (actionAt trace) keys) lineWidth n order out₀ 0 out p
+Inv-loop trace keys order n out₀ p₀ out p = Firsts (placedLine (actionAt trace) keys) lineWidth n order out₀ out p
 
 abbrev μ-loop : tie.MeasureT-loop
 μ-loop trace keys order n out₀ p₀ out p = n - p
 
 loop-holds : tie.Need-loop-holds Inv-loop μ-loop
-loop-holds c = let p = c .before .before .before .before .pre in firsts-none (p .order-long) (omega (arith, p .fits))
+loop-holds c = let p = c .before .before .before .before .pre in firsts-none (p .0 .order-long) (p .1)
 
 mul-j : tie.Need-mul-j Inv-loop μ-loop
 mul-j c = search needs
 
 shared-slice-read-j : tie.Need-shared-slice-read-j Inv-loop μ-loop
-shared-slice-read-j c = let h = c .before .before .before .before .before .before .before .pre .order-long in search needs
+shared-slice-read-j c = let h = c .before .before .before .before .before .before .before .pre .0 .order-long in search needs
 
 cast-j : tie.Need-cast-j Inv-loop μ-loop
 cast-j c = omega (arith, c .shared-slice-known4 .given (c .before .before .loop .p))
@@ -39,7 +39,7 @@ mul-number-in c = omega (arith, c .before .shared-slice-known4 .given (c .before
 shared-slice-read-number-in : tie.Need-shared-slice-read-number-in Inv-loop μ-loop
 shared-slice-read-number-in c =
     let i = c .before .before .before in
-    i .before .before .before .before .before .before .pre .within (i .before .loop .p) (i .loop-test .taken)
+    i .before .before .before .before .before .before .pre .0 .within (i .before .loop .p) (i .loop-test .taken)
 
 number-in-requires : tie.Need-number-in-requires Inv-loop μ-loop
 number-in-requires c κs = search needs
@@ -69,7 +69,7 @@ same-length : tie.Need-same-length Inv-loop μ-loop
 same-length c = firsts-long (c .before .loop .inv)
 
 returns : tie.Need-returns Inv-loop μ-loop
-returns c = firsts-all (c .before .loop .inv) (omega arith)
+returns c = firsts-all (λ x. refl) (c .before .loop .inv) (omega arith)
 
 pub put-placed-spec : {M : Type 1} → statement M
 put-placed-spec =
