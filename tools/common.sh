@@ -26,30 +26,36 @@ need_tool() { # NAME
     mv -f "$made.$$" "$made"
 }
 
-# Has rt prove NAME and make target/FILE of it, unless that is there and nothing in crates/ is newer.
-need_proved() { # NAME FILE RT-WORD
-    local made=$root/target/$2 log=$root/target/setup-$1.log
-    local sources=("$root/crates" "$root/crates.txt")
-    if [ -e "$made" ] && [ -z "$(find "${sources[@]}" -newer "$made" -print -quit 2>/dev/null)" ]; then return; fi
-    command -v rt >/dev/null || die "target/$2 is to be proved and built, and rt is not on the PATH"
+# Whether target/FILE is there and nothing in crates/ is newer, what rt itself leaves in out/ aside.
+is_made() { # FILE
+    local made=$root/target/$1
+    [ -e "$made" ] && [ -z "$(find "$root/crates" "$root/crates.txt" -name out -prune -o -newer "$made" -print -quit 2>/dev/null)" ]
+}
+
+# Has rt prove the crate and build it by that word, and takes what it leaves in the crate's out/ to target/FILE, unless that is made.
+need_proved() { # CRATE OUT FILE RT-WORD
+    local made=$root/target/$3 log=$root/target/setup-$1.log
+    if is_made "$3"; then return; fi
+    command -v rt >/dev/null || die "target/$3 is to be proved and built, and rt is not on the PATH"
     say "proving and building $1 with rt (some minutes, on first use; rt's own words go to target/setup-$1.log)"
-    mkdir -p "$root/target" || die "target/ cannot be made"
-    if ! (cd "$root" && rt "$3" "$1") >"$log" 2>&1 || [ ! -e "$made" ]; then
+    mkdir -p "$(dirname "$made")" || die "target/ cannot be made"
+    if ! (cd "$root/crates/$1" && rt "$4") </dev/null >"$log" 2>&1 || [ ! -e "$root/crates/$1/out/$2" ]; then
         tail -n 3 "$log" >&2
-        die "rt $3 $1 failed"
+        die "rt $4 $1 failed"
     fi
-    # rt leaves a program alone whose files only got a newer date
-    touch "$made"
+    # under another name first, so that a command started meanwhile never meets half a program
+    cp "$root/crates/$1/out/$2" "$made.$$" || die "target/$3 cannot be made"
+    mv -f "$made.$$" "$made"
 }
 
+# rt runs what it builds: on no input, which each program answers and ends.
 need_program() { # NAME, for target/bin/NAME
-    # where only the program is gone, rt's stamp would say that there is nothing to do
-    [ -x "$root/target/bin/$1" ] || rm -f "$root/target/stamp/$1"
-    need_proved "$1" "bin/$1" check
+    need_proved "$1" "$1" "bin/$1" run
 }
 
+# The archive of a crate's calls for C, which the crate NAME_c exports.
 need_archive() { # NAME, for target/staticlib/libNAME.a, which C links
-    need_proved "$1" "staticlib/lib$1.a" staticlib
+    need_proved "$1_c" "lib$1_c.a" "staticlib/lib$1.a" lib
 }
 
 # Sets the words that go before a program to run it here.

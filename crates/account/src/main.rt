@@ -1,4 +1,5 @@
 // Reads a list from standard input and prints `refused N`, or the counts of its run and its account.
+#![tactic(auto)]
 use libc::STDIN_FILENO;
 use stream::room::{MOST_ACCOUNT, MOST_HELD, MOST_TRACE};
 use stream::told;

@@ -1,4 +1,5 @@
 // Hands a run and the writer buffers that are too short by one byte, exactly long enough, and longer, and prints what each answers and whether the rest is untouched.
+#![tactic(auto)]
 mod lent;
 mod rows;
 mod runs;
@@ -14,7 +15,7 @@ use stream::told;
 use stream::window::Window;
 
 // What is held of the input, and whether to go on.
-#[derive(Drop)]
+#[derive(Clone, Copy)]
 struct State {
     window: Window,
     more: bool,

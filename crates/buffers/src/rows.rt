@@ -9,7 +9,7 @@ use stream::told;
 const COUNT: usize = 30;
 
 // Engines, addresses, depth, how many words the memory table has, how many bytes the actions have, and how many the output has.
-#[derive(Drop)]
+#[derive(Clone, Copy)]
 struct Row(u8, u8, u8, usize, usize, usize);
 
 const ROWS: [Row; COUNT] = [

@@ -1,4 +1,5 @@
 // What a turn does is decided here, over small values: which refusal, which event, and which parts of the store change. No other code knows the kinds.
+#![tactic(auto)]
 ghost use Rattle.std.specs.Prelude.{◌≡◌, true, false, pred, ◌<◌, eqb};
 ghost use Rattle.figure.specs.Figure.{R, W, MW, MR, CU, CI};
 ghost use Rattle.shape.specs.Step.{filled};
@@ -12,7 +13,7 @@ use shape::{Answer, InEntry, OutEntry};
 
 // What a turn looks at: whether the state is sound; of its engine's queues how many entries wait and which is the oldest, whether an entry of its own waits in the in queue; whether
 // some in queue is full, which only MW asks; and the word at its address, in the cache and in memory.
-#[derive(Drop)]
+#[derive(Clone, Copy)]
 pub struct Look {
     pub sound: bool,
     pub outs: u8,
@@ -28,7 +29,7 @@ pub struct Look {
 
 // What a turn answers, and what it changes: whether its engine's queues lose their oldest entry (1 or 0), whether the entry joins the out queue (1 or 0),
 // the places of the in queues that the entry joins, and what becomes of the word at the entry's address.
-#[derive(Drop)]
+#[derive(Clone, Copy)]
 pub struct Move {
     pub said: Answer,
     pub out_left: u8,

@@ -9,7 +9,7 @@ use crate::{ENGINES, Engine, MOST_ENGINES, Record, WriteNumber};
 const MOST_WRITES: u32 = 4294967294;
 
 // How many writes are published, how many each engine has taken, and the number of its last own published write, 0 where it has none.
-#[derive(Drop)]
+#[derive(Clone, Copy)]
 pub struct Ledger {
     pub published: WriteNumber,
     pub taken: [WriteNumber; ENGINES],

@@ -1,4 +1,6 @@
 // The sorts of number that the store is made of, its sizes, and the 8-byte record as a struct.
+#![tactic(auto)]
+
 ghost use Rattle.std.specs.Prelude.{◌≡◌, min};
 ghost use Rattle.figure.specs.Refusals.{outside, first_of, sizes_refused};
 ghost use Rattle.figure.specs.Record.{no_record};
@@ -7,16 +9,16 @@ pub mod ledger;
 
 // An engine number, from 1. As an origin, 0 means "from memory".
 #[repr(C)]
-#[derive(Drop)]
+#[derive(Clone, Copy)]
 pub struct Engine(pub u8);
 
 // An address, from 0.
 #[repr(C)]
-#[derive(Drop)]
+#[derive(Clone, Copy)]
 pub struct Address(pub u8);
 
 // The number of a write or of its slot: write 1 is the first that was published.
-#[derive(Drop)]
+#[derive(Clone, Copy)]
 pub struct WriteNumber(pub u32);
 
 // The most engines, addresses and entries of a queue, and how many places arrays have for them.
@@ -34,7 +36,7 @@ pub const DEPTH: usize = MOST_DEPTH as usize;
 
 // How many engines, how many addresses, and how many entries a queue holds at most.
 #[repr(C)]
-#[derive(Drop)]
+#[derive(Clone, Copy)]
 pub struct Sizes {
     pub engines: u8,
     pub addresses: u8,
@@ -43,7 +45,7 @@ pub struct Sizes {
 
 // An action, or the event of an accepted one.
 #[repr(C)]
-#[derive(Drop)]
+#[derive(Clone, Copy)]
 pub struct Record {
     pub kind: u8,
     pub engine: Engine,
@@ -79,6 +81,7 @@ pub fn is_outside(lo: u8, hi: u8, x: u8) -> bool
 }
 
 // The number of the size that is out of range, 0 where none is.
+#[tactic(auto, unfolding(crate::specs::Refusals::sizes_refused))]
 pub fn judge_sizes(z: Sizes) -> u8
     ensures { result ≡ first_of (sizes_refused z) }
 {

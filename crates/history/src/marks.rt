@@ -9,14 +9,14 @@ use figure::ledger::Ledger;
 use figure::{ENGINES, Record, WriteNumber};
 use lists::bytes::RECORD;
 
-#[derive(Drop)]
+#[derive(Clone, Copy)]
 pub struct Tally {
     pub ledger: Ledger,
     pub accepted: usize,
 }
 
 // A number for each engine.
-#[derive(Drop)]
+#[derive(Clone, Copy)]
 pub struct PerEngine {
     pub numbers: [WriteNumber; ENGINES],
 }

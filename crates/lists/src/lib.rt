@@ -1,4 +1,6 @@
 // Lists on the wire: the record's bytes, the reader, the memory values, the writer and the walker; and the account's lines.
+#![tactic(auto)]
+
 pub mod bytes;
 pub mod line;
 pub mod memory;

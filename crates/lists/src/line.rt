@@ -13,7 +13,7 @@ pub const LINE: usize = 12;
 pub const NO_NUMBER: u32 = 0xFFFFFFFF;
 
 // An event of the account, and its slot or write number.
-#[derive(Drop)]
+#[derive(Clone, Copy)]
 pub struct Line {
     pub event: Record,
     pub number: WriteNumber,

@@ -16,7 +16,7 @@ pub const MOST_ACTIONS: usize = 2048;
 pub const MOST_LIST: usize = HEADER + WORD * ADDRESSES + RECORD * MOST_ACTIONS;
 
 // What the reader finds: its number, and all else 0 where it refuses.
-#[derive(Drop)]
+#[derive(Clone, Copy)]
 pub struct Layout {
     pub number: u8,
     pub sizes: Sizes,

@@ -8,20 +8,20 @@ use crate::reader::read;
 use figure::Record;
 
 // One action, or that none is left.
-#[derive(Drop)]
+#[derive(Clone, Copy)]
 pub enum Found {
     Action(Record),
     Nothing,
 }
 
 // What one step of a walk gives: what was found, and the place after it.
-#[derive(Drop)]
+#[derive(Clone, Copy)]
 pub struct Taken {
     pub found: Found,
     pub after: usize,
 }
 
-#[derive(Drop)]
+#[derive(Clone, Copy)]
 pub struct Walker<'a> {
     pub list: &'a [u8],
     pub place: usize,

@@ -10,7 +10,7 @@ use crate::reader::{HEADER, MOST_ACTIONS, VERSION};
 use figure::{Sizes, judge_sizes};
 
 // The writer's answer: its number and the list's length, 0 where it refuses.
-#[derive(Drop)]
+#[derive(Clone, Copy)]
 pub struct Written {
     pub number: u8,
     pub length: usize,

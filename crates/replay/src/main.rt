@@ -1,4 +1,5 @@
 // Standard input is chunks. For each, prints what `account` prints of it and the hash of its trace.
+#![tactic(auto)]
 ghost use Rattle.std.specs.Prelude.{◌≡◌, ◌+◌, ◌≤◌, length};
 ghost use Rattle.stream.specs.Window.{Inside, InWindow};
 ghost use Rattle.replay.specs.Ready.{BuffersFit, Ready, most_printed};
@@ -12,7 +13,7 @@ use stream::window::Window;
 const MOST_PRINTED: usize = report::MOST_ACCOUNT_TEXT + report::TRACE_TEXT;
 
 // What is held of the input, how much of the output is waiting, and whether to go on.
-#[derive(Drop)]
+#[derive(Clone, Copy)]
 pub struct State {
     pub window: Window,
     pub at: usize,

@@ -1,4 +1,5 @@
 // What an action sees of a store that is lent. Every queue is tested and looked at where it stands, one place at a time, so that none is copied.
+#![tactic(auto)]
 ghost use Rattle.std.specs.Prelude.{◌≡◌, true, false, ◌<◌};
 ghost use Rattle.figure.specs.Refusals.{most_engines, most_addresses, most_depth};
 ghost use Rattle.figure.specs.declared.Record.{Record};
@@ -24,7 +25,7 @@ pub fn word_in(a: Address) -> usize
 }
 
 // What stands at one place of both queues of an engine, how many entries they have, a word of its cache and of memory, and the sizes.
-#[derive(Drop)]
+#[derive(Clone, Copy)]
 pub struct Glance {
     pub sizes: Sizes,
     pub outs: u8,
@@ -53,7 +54,7 @@ fn glance_at(s: &Store, i: usize, k: usize, a: usize) -> Glance
 }
 
 // Where the scan of a store stands, and what it has seen. Before it has begun to test, it goes through the in queue of the action's engine for an entry of its own, if the action asks.
-#[derive(Drop)]
+#[derive(Clone, Copy)]
 pub struct Scan {
     pub action: Record,
     pub first: Glance,

@@ -1,9 +1,11 @@
 // What a store is made of: queue entries, queues, caches, the store, and what its calls answer. What a step makes of it is in specs/, and proofs/ ties that to Figure 2.
+#![tactic(auto)]
+
 use figure::{ADDRESSES, Address, DEPTH, ENGINES, Engine, Record, Sizes};
 
 // An update on its way to a cache; origin 0: from memory.
 #[repr(C)]
-#[derive(Drop)]
+#[derive(Clone, Copy)]
 pub struct InEntry {
     pub origin: Engine,
     pub address: Address,
@@ -12,14 +14,14 @@ pub struct InEntry {
 
 // A write on its way to memory.
 #[repr(C)]
-#[derive(Drop)]
+#[derive(Clone, Copy)]
 pub struct OutEntry {
     pub address: Address,
     pub data: u32,
 }
 
 #[repr(C)]
-#[derive(Drop)]
+#[derive(Clone, Copy)]
 pub struct Cache {
     pub present: [bool; ADDRESSES],
     pub data: [u32; ADDRESSES],
@@ -27,14 +29,14 @@ pub struct Cache {
 
 // The oldest entry stands at place 0.
 #[repr(C)]
-#[derive(Drop)]
+#[derive(Clone, Copy)]
 pub struct OutQueue {
     pub len: u8,
     pub entries: [OutEntry; DEPTH],
 }
 
 #[repr(C)]
-#[derive(Drop)]
+#[derive(Clone, Copy)]
 pub struct InQueue {
     pub len: u8,
     pub entries: [InEntry; DEPTH],
@@ -42,7 +44,7 @@ pub struct InQueue {
 
 // Engine i's parts stand at place i - 1.
 #[repr(C)]
-#[derive(Drop)]
+#[derive(Clone, Copy)]
 pub struct Store {
     pub sizes: Sizes,
     pub memory: [u32; ADDRESSES],
@@ -52,14 +54,14 @@ pub struct Store {
 }
 
 // A fresh store, or the number of its refusal and zeros.
-#[derive(Drop)]
+#[derive(Clone, Copy)]
 pub struct Made {
     pub number: u8,
     pub store: Store,
 }
 
 // What a step answers, with the store after it, and without.
-#[derive(Drop)]
+#[derive(Clone, Copy)]
 pub struct Stepped {
     pub number: u8,
     pub store: Store,
@@ -67,7 +69,7 @@ pub struct Stepped {
 }
 
 #[repr(C)]
-#[derive(Drop)]
+#[derive(Clone, Copy)]
 pub struct Answer {
     pub number: u8,
     pub event: Record,

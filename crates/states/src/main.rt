@@ -1,4 +1,5 @@
 // Takes each state and action on standard input through the step by value and through the step in place, and prints what they answer.
+#![tactic(auto)]
 mod decode;
 mod encode;
 mod event;

@@ -21,7 +21,7 @@ const OUTSIDE: usize = PLACES;
 const WORDS: usize = ENGINES * ADDRESSES;
 
 // A queue in a ring of 32 places: where its oldest entry stands, and how many there are.
-#[derive(Drop)]
+#[derive(Clone, Copy)]
 pub(crate) struct Ring {
     pub head: u8,
     pub len: u8,

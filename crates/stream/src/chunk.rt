@@ -7,7 +7,7 @@ use crate::window::{Window, hold};
 const COUNT: usize = 4;
 
 // A whole chunk came, or the input ended before one, or inside one.
-#[derive(Drop)]
+#[derive(Clone, Copy)]
 pub enum Came {
     Whole,
     End,
@@ -15,7 +15,7 @@ pub enum Came {
 }
 
 // A chunk's first bytes, as many as were taken, stand at the start of the window; so many more belong to it, and may not be read yet.
-#[derive(Drop)]
+#[derive(Clone, Copy)]
 pub struct Chunk {
     pub came: Came,
     pub window: Window,

@@ -4,14 +4,14 @@ ghost use Rattle.stream.specs.Window.{Inside};
 
 use libc::STDIN_FILENO;
 
-#[derive(Drop)]
+#[derive(Clone, Copy)]
 pub struct Window {
     pub from: usize,
     pub to: usize,
 }
 
 // The window past the bytes that were dropped, and how many more the input did not have.
-#[derive(Drop)]
+#[derive(Clone, Copy)]
 pub struct Dropped {
     pub window: Window,
     pub missing: usize,
