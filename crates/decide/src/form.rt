@@ -40,6 +40,7 @@ fn fields_right(x: Record) -> bool
 }
 
 // 11 to 14, or 0.
+#[tactic(auto, unfolding(shape::specs::Step::form_refused))]
 pub(crate) fn judge_form(z: Sizes, x: Record) -> u8
     ensures { result ≡ first_of (form_refused z x) }
 {

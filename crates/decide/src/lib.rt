@@ -1,5 +1,6 @@
 // What a turn does is decided here, over small values: which refusal, which event, and which parts of the store change. No other code knows the kinds.
 #![tactic(auto)]
+
 ghost use Rattle.std.specs.Prelude.{◌≡◌, true, false, pred, ◌<◌, eqb};
 ghost use Rattle.figure.specs.Figure.{R, W, MW, MR, CU, CI};
 ghost use Rattle.shape.specs.Step.{filled};

@@ -1,6 +1,7 @@
 // What a run answers. What the answer and the two lent buffers must be, and the demands about a run, are in specs/; proofs/ has the theorems.
-// The number of the refusal and zeros, or 0 and the four counts.
 #![tactic(auto)]
+
+// The number of the refusal and zeros, or 0 and the four counts.
 #[derive(Clone, Copy)]
 pub struct Counts {
     pub number: u8,

@@ -14,5 +14,3 @@ pub mod Actions
 pub mod RoundTrip
 pub mod Walks
 pub mod Largest
--- a struct lent to a call, for the walks by hand
-pub mod Lent

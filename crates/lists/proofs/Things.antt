@@ -51,7 +51,9 @@ module _ {A : Type 0} {c : Codec A} (l : Lawful c) where
       let row = c.bytes x in
       let more = rows c.bytes xs ++ rest in
       let e : things_at c (row ++ more) (0 + w) (length xs) ≡ xs = rw (zero-add w, things-drop (row ++ more) w (length xs), drop_at row more w (l.wide x)) (things-rows xs rest) in
-      rw (append_assoc row (rows c.bytes xs) rest, l.back x more, e)
+      let whole : rows c.bytes (x ∷ xs) ++ rest ≡ row ++ more = append_assoc row (rows c.bytes xs) rest in
+      ap (λ (s : List ℕ). things_at c s 0 (suc (length xs))) whole
+      ∙ (ap (λ (y : A). y ∷ things_at c (row ++ more) (0 + w) (length xs)) (l.back x more) ∙ ap (λ (ys : List A). x ∷ ys) e)
 
   -- the rows of what is read are the bytes that it was read off
   pub rows-things : (s : List ℕ) → Bytes s → (i n : ℕ) → i + c.width * n ≤ length s → rows c.bytes (things_at c s i n) ≡ take (c.width * n) (drop i s)

@@ -15,7 +15,7 @@ use Rattle.figure.specs.declared.Record.{Record}
 use Rattle.figure.specs.declared.Sizes.{Sizes}
 use Rattle.figure.proofs.First.{none_first, first-none, none-split, sizes-numbered}
 use Rattle.figure.proofs.Laws.{and_left, and_right}
-use Rattle.shape.proofs.Places.{and_both, or_left, or_right, all_end, all_tail, all_get_d, all_replicate, all-change, all_map, take-change, take-firsts, length-tail-le, length-take-most, out-with, in-with}
+use Rattle.shape.proofs.Places.{and_both, or_left, or_right, all_end, all_tail, all-get_or, all_replicate, all-change, all_map, take-change, take-firsts, length-tail-le, length-take-most, out-with, in-with}
 use Rattle.shape.proofs.Taken.{Goes, goes_r, goes_w, goes_mw, goes_mr, goes_cu, goes_ci, Answers, takes, keeps, answers}
 use Rattle.shape.specs.Fresh.{fresh_of, zeros, fresh_refused, empty_out, empty_in}
 use Rattle.shape.specs.Parts.{all, any, change, firsts, full, out_of, with_out, out_joined, out_left, in_of, with_in, in_joined, in_left, no_out, no_in, no_out_entry, no_in_entry}
@@ -108,18 +108,18 @@ module _ (z : Sizes) where
 module _ (s : Store) (h : Sound s) (k : ℕ) (b : k < s.sizes.engines) where
   pub out-sound : sound_out s.sizes (out_at s (suc k)) ≡ true
   out-sound = rw (← (get_or-take s.sizes.engines s.outs k no_out b))
-      (all_get_d (sound_out s.sizes) (take s.sizes.engines s.outs) k no_out (and_both (le-leb 0 s.sizes.depth (omega arith)) refl) h.outs)
+      (all-get_or (sound_out s.sizes) (take s.sizes.engines s.outs) k no_out (and_both (le-leb 0 s.sizes.depth (omega arith)) refl) h.outs)
 
   pub in-sound : sound_in s.sizes (in_at s (suc k)) ≡ true
   in-sound = rw (← (get_or-take s.sizes.engines s.ins k no_in b))
-      (all_get_d (sound_in s.sizes) (take s.sizes.engines s.ins) k no_in (and_both (le-leb 0 s.sizes.depth (omega arith)) refl) h.ins)
+      (all-get_or (sound_in s.sizes) (take s.sizes.engines s.ins) k no_in (and_both (le-leb 0 s.sizes.depth (omega arith)) refl) h.ins)
 
   pub oldest-sound : ltb (oldest_out s (suc k)).address.0 s.sizes.addresses ≡ true
-  oldest-sound = all_get_d (sound_out_entry s.sizes) (out_of (out_at s (suc k))) 0 no_out_entry (lt-ltb 0 s.sizes.addresses (ranged s h).some_address)
+  oldest-sound = all-get_or (sound_out_entry s.sizes) (out_of (out_at s (suc k))) 0 no_out_entry (lt-ltb 0 s.sizes.addresses (ranged s h).some_address)
       (and_right (leb (out_at s (suc k)).len s.sizes.depth) _ out-sound)
 
   pub oldest-in-sound : sound_in_entry s.sizes (oldest_in s (suc k)) ≡ true
-  oldest-in-sound = all_get_d (sound_in_entry s.sizes) (in_of (in_at s (suc k))) 0 no_in_entry
+  oldest-in-sound = all-get_or (sound_in_entry s.sizes) (in_of (in_at s (suc k))) 0 no_in_entry
       (entry-sound s.sizes 0 0 0 (omega arith) (lt-ltb 0 s.sizes.addresses (ranged s h).some_address))
       (and_right (leb (in_at s (suc k)).len s.sizes.depth) _ in-sound)
 

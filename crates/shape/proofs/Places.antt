@@ -39,10 +39,10 @@ module _ {A : Type 0} (p : A → Bool) where
   all_tail (x ∷ l) h = and_right (p x) _ h
 
   -- what holds of all, and of the default, holds at every place
-  pub all_get_d : (l : List A) (k : ℕ) (d : A) → p d ≡ true → all p l ≡ true → p (get_or l k d) ≡ true
-  all_get_d [] k d e h = e
-  all_get_d (x ∷ l) zero d e h = and_left (p x) _ h
-  all_get_d (x ∷ l) (suc k) d e h = all_get_d l k d e (and_right (p x) _ h)
+  pub all-get_or : (l : List A) (k : ℕ) (d : A) → p d ≡ true → all p l ≡ true → p (get_or l k d) ≡ true
+  all-get_or [] k d e h = e
+  all-get_or (x ∷ l) zero d e h = and_left (p x) _ h
+  all-get_or (x ∷ l) (suc k) d e h = all-get_or l k d e (and_right (p x) _ h)
 
   pub all_replicate : (n m : ℕ) (a : A) → p a ≡ true → all p (take n (replicate m a)) ≡ true
   all_replicate zero m a e = refl
