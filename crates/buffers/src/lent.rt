@@ -1,4 +1,5 @@
 // A buffer before it is lent: a byte at each place that tells whether the place was written.
+use std::io::Write;
 use stream::told;
 
 fn pattern(at: usize) -> u8 {
@@ -25,10 +26,10 @@ pub(crate) fn is_untouched(b: &[u8], from: usize) -> bool {
     true
 }
 
-pub(crate) fn tell_untouched(is_untouched: bool) {
+pub(crate) fn tell_untouched<W: Write>(writer: &mut W, is_untouched: bool) {
     if is_untouched {
-        told::text(b" untouched");
+        told::text(writer, b" untouched");
     } else {
-        told::text(b" TOUCHED");
+        told::text(writer, b" TOUCHED");
     }
 }

@@ -2,6 +2,7 @@
 use crate::lent;
 use figure::Sizes;
 use lists::reader::MOST_LIST;
+use std::io::Write;
 use stream::front::{front, front_words};
 use stream::room::MOST_TRACE;
 use stream::told;
@@ -52,30 +53,36 @@ const ACTIONS_ROOM: usize = MOST_TRACE + 9;
 
 const OUTPUT_ROOM: usize = MOST_LIST;
 
-fn tell_row(row: Row) {
-    told::text(b"write");
-    told::byte(row.0);
-    told::byte(row.1);
-    told::byte(row.2);
-    told::number(row.3);
-    told::number(row.4);
-    told::number(row.5);
+fn tell_row<W: Write>(writer: &mut W, row: Row) {
+    told::text(writer, b"write");
+    told::byte(writer, row.0);
+    told::byte(writer, row.1);
+    told::byte(writer, row.2);
+    told::number(writer, row.3);
+    told::number(writer, row.4);
+    told::number(writer, row.5);
 }
 
 // Lends the output to the writer and prints what it answers.
-fn write_row(sizes: Sizes, table: &[u32], actions: &[u8], out: &mut [u8]) {
+fn write_row<W: Write>(
+    writer: &mut W,
+    sizes: Sizes,
+    table: &[u32],
+    actions: &[u8],
+    out: &mut [u8],
+) {
     lent::fill(out);
     let w = lists::writer::write(sizes, table, actions, out);
-    told::text(b" is");
-    told::byte(w.number);
-    told::number(w.length);
-    lent::tell_untouched(lent::is_untouched(out, w.length));
-    told::hash_front(out, w.length);
-    told::text(b"\n");
+    told::text(writer, b" is");
+    told::byte(writer, w.number);
+    told::number(writer, w.length);
+    lent::tell_untouched(writer, lent::is_untouched(out, w.length));
+    told::hash_front(writer, out, w.length);
+    told::text(writer, b"\n");
 }
 
 // The first words of the table, the first bytes of the actions, and the first of the output.
-fn take_row(row: Row, table: &[u32], actions: &[u8], out: &mut [u8]) {
+fn take_row<W: Write>(writer: &mut W, row: Row, table: &[u32], actions: &[u8], out: &mut [u8]) {
     let sizes = Sizes {
         engines: row.0,
         addresses: row.1,
@@ -84,15 +91,15 @@ fn take_row(row: Row, table: &[u32], actions: &[u8], out: &mut [u8]) {
     let m = front_words(table, row.3);
     let n = front(actions, row.4);
     let room = front(out, row.5);
-    tell_row(row);
-    write_row(sizes, &table[..m], &actions[..n], &mut out[..room]);
+    tell_row(writer, row);
+    write_row(writer, sizes, &table[..m], &actions[..n], &mut out[..room]);
 }
 
-fn take_rows(table: &[u32], actions: &[u8], out: &mut [u8]) {
+fn take_rows<W: Write>(writer: &mut W, table: &[u32], actions: &[u8], out: &mut [u8]) {
     let mut i = 0;
     while i < COUNT {
         let row = ROWS[i];
-        take_row(row, table, actions, out);
+        take_row(writer, row, table, actions, out);
         i += 1;
     }
 }
@@ -110,10 +117,10 @@ fn words() -> [u32; TABLE_ROOM] {
     table
 }
 
-pub(crate) fn tell_all() {
+pub(crate) fn tell_all<W: Write>(writer: &mut W) {
     let table = words();
     let mut actions = [0u8; ACTIONS_ROOM];
     lent::fill(&mut actions);
     let mut out = [0u8; OUTPUT_ROOM];
-    take_rows(&table, &actions, &mut out);
+    take_rows(writer, &table, &actions, &mut out);
 }

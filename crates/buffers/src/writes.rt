@@ -1,6 +1,7 @@
 // A list that the reader takes, written again into outputs of different lengths.
 use crate::lent;
 use lists::reader::MOST_LIST;
+use std::io::Write;
 use stream::front::{front, front_words};
 use stream::told;
 
@@ -8,7 +9,7 @@ use stream::told;
 const SPARE: usize = 11;
 
 // Lends the output to the writer and prints its line.
-fn write_line(name: &[u8], list: &[u8], out: &mut [u8]) {
+fn write_line<W: Write>(writer: &mut W, name: &[u8], list: &[u8], out: &mut [u8]) {
     lent::fill(out);
     let l = lists::reader::read(list);
     let sizes = l.sizes;
@@ -16,24 +17,24 @@ fn write_line(name: &[u8], list: &[u8], out: &mut [u8]) {
     let m = front_words(&table, sizes.addresses as usize);
     let at = front(list, l.actions_at);
     let w = lists::writer::write(sizes, &table[..m], &list[at..], out);
-    told::text(name);
-    told::byte(w.number);
-    told::number(w.length);
-    lent::tell_untouched(lent::is_untouched(out, w.length));
+    told::text(writer, name);
+    told::byte(writer, w.number);
+    told::number(writer, w.length);
+    lent::tell_untouched(writer, lent::is_untouched(out, w.length));
     if w.number == 0 {
         let end = front(out, w.length);
-        told::whether_same(check::same(list, &out[..end]));
+        told::whether_same(writer, check::same(list, &out[..end]));
     }
-    told::text(b"\n");
+    told::text(writer, b"\n");
 }
 
 // The same with the first n bytes of a larger output.
-fn write_with(name: &[u8], list: &[u8], out: &mut [u8], n: usize) {
+fn write_with<W: Write>(writer: &mut W, name: &[u8], list: &[u8], out: &mut [u8], n: usize) {
     let end = front(out, n);
-    write_line(name, list, &mut out[..end]);
+    write_line(writer, name, list, &mut out[..end]);
 }
 
-pub(crate) fn tell(list: &[u8]) {
+pub(crate) fn tell<W: Write>(writer: &mut W, list: &[u8]) {
     let l = lists::reader::read(list);
     if l.number != 0 {
         return;
@@ -45,7 +46,7 @@ pub(crate) fn tell(list: &[u8]) {
         return;
     }
     let mut out = [0u8; MOST_LIST + SPARE];
-    write_with(b"write short", list, &mut out, list.len() - 1);
-    write_with(b"write exact", list, &mut out, list.len());
-    write_with(b"write longer", list, &mut out, list.len() + SPARE);
+    write_with(writer, b"write short", list, &mut out, list.len() - 1);
+    write_with(writer, b"write exact", list, &mut out, list.len());
+    write_with(writer, b"write longer", list, &mut out, list.len() + SPARE);
 }

@@ -1,5 +1,6 @@
 // An answer's number and event, told and compared.
 use figure::Record;
+use std::io::Write;
 use stream::told;
 
 fn bytes_of(r: Record) -> [u8; 8] {
@@ -9,9 +10,10 @@ fn bytes_of(r: Record) -> [u8; 8] {
 }
 
 // Its eight bytes.
-pub(crate) fn tell(r: Record) {
+pub(crate) fn tell<W: Write>(writer: &mut W, r: Record) {
     let b = bytes_of(r);
     told::hex(
+        writer,
         lists::bytes::get_u32(&b, 0) as u64 * 4294967296 + lists::bytes::get_u32(&b, 4) as u64,
     );
 }

@@ -3,6 +3,7 @@ ghost use Rattle.std.specs.Prelude.{◌≤◌, length};
 ghost use Rattle.stream.specs.Window.{Inside, InWindow};
 
 use crate::window::{Window, hold};
+use std::io::Read;
 
 const COUNT: usize = 4;
 
@@ -35,11 +36,11 @@ fn none(came: Came) -> Chunk
 }
 
 // The chunk at the start of the window, of which at most so many bytes are taken.
-pub fn next(buffer: &mut [u8], w: Window, most: usize) -> Chunk
+pub fn next<R: Read>(reader: &mut R, buffer: &mut [u8], w: Window, most: usize) -> Chunk
     requires { Inside w buffer.old × (4 ≤ length buffer.old) × (most ≤ length buffer.old) }
     ensures { InWindow result buffer.old }
 {
-    let head = hold(buffer, w, COUNT);
+    let head = hold(reader, buffer, w, COUNT);
     let from = head.from;
     let held = head.to - from;
     if held == 0 {
@@ -51,6 +52,7 @@ pub fn next(buffer: &mut [u8], w: Window, most: usize) -> Chunk
     let count = lists::bytes::get_u32(buffer, from) as usize;
     let taken = figure::least(count, most);
     let window = hold(
+        reader,
         buffer,
         Window {
             from: from + COUNT,

@@ -1,54 +1,62 @@
-// What a line of output is made of.
+// What a line of output is made of. A write that fails is let go, as is what the output does not take.
 use crate::front::front;
 use crate::hash;
-use libc::STDOUT_FILENO;
+use std::io::Write;
 
-pub fn text(words: &[u8]) {
-    io::write_all(STDOUT_FILENO, words);
+pub fn text<W: Write>(writer: &mut W, words: &[u8]) {
+    let _ = writer.write_all(words);
 }
 
 // The first n bytes, all where there are fewer.
-pub fn text_front(words: &[u8], n: usize) {
+pub fn text_front<W: Write>(writer: &mut W, words: &[u8], n: usize) {
     let end = front(words, n);
-    text(&words[..end]);
+    text(writer, &words[..end]);
+}
+
+fn decimal<W: Write>(writer: &mut W, n: u64) {
+    let mut digits = [0u8; 20];
+    let count = io::decimal(n, &mut digits);
+    text(writer, &digits[..count]);
 }
 
 // A number, with no blank before it: the first on its line.
-pub fn first_number(n: u8) {
-    io::print_decimal(STDOUT_FILENO, n as u64);
+pub fn first_number<W: Write>(writer: &mut W, n: u8) {
+    decimal(writer, n as u64);
 }
 
 // A blank and a number.
-pub fn number(n: usize) {
-    text(b" ");
-    io::print_decimal(STDOUT_FILENO, n as u64);
+pub fn number<W: Write>(writer: &mut W, n: usize) {
+    text(writer, b" ");
+    decimal(writer, n as u64);
 }
 
-pub fn byte(n: u8) {
-    number(n as usize);
+pub fn byte<W: Write>(writer: &mut W, n: u8) {
+    number(writer, n as usize);
 }
 
 // A blank and 16 digits.
-pub fn hex(n: u64) {
-    text(b" ");
-    io::print_hex(STDOUT_FILENO, n, 16);
+pub fn hex<W: Write>(writer: &mut W, n: u64) {
+    text(writer, b" ");
+    let mut digits = [0u8; 16];
+    let count = io::hex(n, 16, &mut digits);
+    text(writer, &digits[..count]);
 }
 
 // The hash of the first n bytes, of all where there are fewer.
-pub fn hash_front(b: &[u8], n: usize) {
+pub fn hash_front<W: Write>(writer: &mut W, b: &[u8], n: usize) {
     let end = front(b, n);
-    hex(hash::hash(&b[..end]));
+    hex(writer, hash::hash(&b[..end]));
 }
 
-pub fn whether_same(is_same: bool) {
+pub fn whether_same<W: Write>(writer: &mut W, is_same: bool) {
     if is_same {
-        text(b" same");
+        text(writer, b" same");
     } else {
-        text(b" DIFFERS");
+        text(writer, b" DIFFERS");
     }
 }
 
 // The input ended inside a chunk or an item.
-pub fn cut_short() {
-    text(b"cut short\n");
+pub fn cut_short<W: Write>(writer: &mut W) {
+    text(writer, b"cut short\n");
 }
