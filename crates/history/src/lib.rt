@@ -1,5 +1,6 @@
 // The run over a list: its trace, its account and its counts.
 #![tactic(auto)]
+
 ghost use Rattle.std.specs.Prelude.{◌≡◌, ◌≤◌, length};
 ghost use Rattle.lists.specs.Bytes.{rows, laid};
 ghost use Rattle.lists.specs.Read.{memory_table};

@@ -8,7 +8,7 @@ use Rattle.report.proofs as report
 use Rattle.store.proofs as store
 use Rattle.demands.specs.Demand.{Untouched}
 use Rattle.figure.specs.Record.{no_record}
-use Rattle.lists.specs.Read.{refused_as, read_of}
+use Rattle.lists.specs.Read.{refused_as_lem, read_of}
 use Rattle.lists.specs.Walk.{NoneLeft}
 use Rattle.lists.specs.Write.{Unwritten}
 use Rattle.shape.specs.Fresh.{zeros}
@@ -65,7 +65,7 @@ pub record Demand1 : Type 2 where
   pub in_place_stays : EveryStepInPlace (λ s x r s'. ¬ (r.number ≡ 0) → (s' ≡ s) × (r.event ≡ no_record))
   pub turns_stay : EveryTurns (λ z table actions trace r trace'. ¬ (r ≡ 0) → trace' ≡ trace)
   -- "all 0 on a refusal"
-  pub read_zeros : EveryRead (λ list r. ¬ (r.number ≡ 0) → r ≡ refused_as r.number)
+  pub read_zeros : EveryRead (λ list r. ¬ (r.number ≡ 0) → r ≡ refused_as_lem r.number)
   -- "answers with the list's length, 0 on a refusal"
   pub write_stays : EveryWrite (λ z memory actions out r out'. ¬ (r.number ≡ 0) → Unwritten out r out')
   -- "over bytes the reader refuses it has none"

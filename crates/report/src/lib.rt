@@ -1,5 +1,6 @@
 // What people read, as bytes in a lent buffer. Bytes that do not fit are not written; each answer is the length of the whole text.
 #![tactic(auto)]
+
 mod actions;
 mod decimal;
 mod events;

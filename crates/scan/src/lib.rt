@@ -1,5 +1,6 @@
 // What an action sees of a store that is lent. Every queue is tested and looked at where it stands, one place at a time, so that none is copied.
 #![tactic(auto)]
+
 ghost use Rattle.std.specs.Prelude.{◌≡◌, true, false, ◌<◌};
 ghost use Rattle.figure.specs.Refusals.{most_engines, most_addresses, most_depth};
 ghost use Rattle.figure.specs.declared.Record.{Record};
@@ -41,12 +42,14 @@ fn glance_at(s: &Store, i: usize, k: usize, a: usize) -> Glance
     requires { (i < most_engines) × ((k < most_depth) × (a < most_addresses)) }
     ensures { (result ≡ glance_at s.now i k a) × LongAt s.now i }
 {
+    let outs = &s.outs[i];
+    let ins = &s.ins[i];
     Glance {
         sizes: s.sizes,
-        outs: s.outs[i].len,
-        ins: s.ins[i].len,
-        out: s.outs[i].entries[k],
-        into: s.ins[i].entries[k],
+        outs: outs.len,
+        ins: ins.len,
+        out: outs.entries[k],
+        into: ins.entries[k],
         held: s.caches[i].present[a],
         cached: s.caches[i].data[a],
         stored: s.memory[a],

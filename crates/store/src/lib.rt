@@ -1,5 +1,6 @@
 // The store of the lazy caching protocol: fresh, sound, the step by value and in place, and many steps at once.
 #![tactic(auto)]
+
 ghost use Rattle.std.specs.Prelude.{◌≡◌, ◌≤◌, length};
 ghost use Rattle.figure.specs.Refusals.{first_of, most_addresses};
 ghost use Rattle.shape.specs.Fresh.{fresh_of, zeros, fresh_refused, made};
