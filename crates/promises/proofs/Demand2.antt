@@ -2,11 +2,10 @@
 use mathlib.Core.Path.{◌≡◌, refl, sym, ap, ◌∙◌}
 use mathlib.Core.Bool.{true}
 use mathlib.Core.List.{List}
-use Prim.Native.Nat.{ℕ, zero, ◌*◌, ◌≤◌}
+use Prim.Native.Nat.{ℕ, ◌*◌, ◌≤◌}
 use denote.Array.{Array}
 use denote.Builtin.{u8}
 use lib.ListN.{length, take}
-use Rattle.shape.proofs as shape
 use Rattle.demands.proofs.Demands.{run-refuses, run-numbered, reader-took, run-trace}
 use Rattle.demands.proofs.Runs.{fresh-taken}
 use Rattle.demands.specs.Run.{run_sizes, run_fresh, run_action, run_trace, Ran}

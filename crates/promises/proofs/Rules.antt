@@ -5,7 +5,7 @@ use Prim.Native.Nat.{ℕ, zero, suc, ◌≤◌}
 use native.Mathlib.Omega.{arith}
 use denote.Ref.{Bor}
 use lib.ListN.{length, get_or}
-use Rattle.shape.proofs as shape
+use Rattle.shape.specs.contracts as shape
 use Rattle.figure.specs.Agree.{Agrees}
 use Rattle.figure.specs.Figure as Figure
 use Rattle.figure.specs.Refusals.{first_of, unless}

@@ -1,7 +1,5 @@
 -- Two results that a contract allows are equal, of every public call. Assumes nothing.
 use mathlib.Core.Path.{◌≡◌, sym, ◌∙◌}
-use native.Mathlib.Omega.{arith}
-use lib.ListN.{length}
 use Rattle.lists.proofs.Walks.{handed-same, took-same}
 use Rattle.report.proofs.Written.{wrote-unique}
 use Rattle.promises.specs.Unique.{Unique}

@@ -8,11 +8,11 @@ use Rattle.report.proofs as report
 use Rattle.store.proofs as store
 use Rattle.demands.specs.Demand.{Untouched}
 use Rattle.figure.specs.Record.{no_record}
-use Rattle.lists.specs.Read.{refused_as_lem, read_of}
+use Rattle.lists.specs.Read.{refused_as, read_of}
 use Rattle.lists.specs.Walk.{NoneLeft}
 use Rattle.lists.specs.Write.{Unwritten}
 use Rattle.shape.specs.Fresh.{zeros}
-use Rattle.promises.specs.Calls.{in_place_asked, start_asked, next_asked, EveryFresh, EveryStep, EveryOnce, EveryStepInPlace, EveryTurns, EveryRead, EveryWrite, EveryNext, EveryRun}
+use Rattle.promises.specs.Calls.{EveryFresh, EveryStep, EveryOnce, EveryStepInPlace, EveryTurns, EveryRead, EveryWrite, EveryNext, EveryRun}
 
 -- "answers .. and ends": its code meets its contract, at every model of the machine. "No caller has tested anything": its contract asks nothing
 pub record Answers (statement : Type 1 → Type 2) (asked : Type 0) : Type 2 where
@@ -40,15 +40,15 @@ pub record Demand1 : Type 2 where
   pub write_answers : Answers lists.writer.write.Statement.statement ((κs : Lfts 3) (a : _) → lists.writer.write.Reads.Asked κs a)
   pub action_at_answers : Answers lists.walker.action_at.Statement.statement ((κs : Lfts 1) (a : _) → lists.walker.action_at.Reads.Asked κs a)
   pub taken_at_answers : Answers lists.walker.taken_at.Statement.statement ((κs : Lfts 1) (a : _) → lists.walker.taken_at.Reads.Asked κs a)
-  pub start_answers : Answers lists.walker.start.Statement.statement ((κs : Lfts 1) (a : _) → start_asked κs a)
-  pub next_answers : Answers lists.walker.next.Statement.statement ((κs : Lfts 2) (a : _) → next_asked κs a)
+  pub start_answers : Answers lists.walker.start.Statement.statement ((κs : Lfts 1) (a : _) → lists.walker.start.Reads.Asked κs a)
+  pub next_answers : Answers lists.walker.next.Statement.statement ((κs : Lfts 2) (a : _) → lists.walker.next.Reads.Asked κs a)
   pub count_answers : Answers lists.walker.count.Statement.statement ((κs : Lfts 1) (a : _) → lists.walker.count.Reads.Asked κs a)
   -- store
   pub fresh_answers : Answers store.fresh.Statement.statement ((κs : Lfts 1) (a : _) → store.fresh.Reads.Asked κs a)
   pub sound_answers : Answers store.sound.Statement.statement ((κs : Lfts 0) (a : _) → store.sound.Reads.Asked κs a)
   pub step_answers : Answers store.step.Statement.statement ((κs : Lfts 0) (a : _) → store.step.Reads.Asked κs a)
   pub once_answers : Answers store.once.Statement.statement ((κs : Lfts 0) (a : _) → store.once.Reads.Asked κs a)
-  pub in_place_answers : Answers store.step_in_place.Statement.statement ((κs : Lfts 1) (a : _) → in_place_asked κs a)
+  pub in_place_answers : Answers store.step_in_place.Statement.statement ((κs : Lfts 1) (a : _) → store.step_in_place.Reads.Asked κs a)
   pub turns_answers : Answers store.turns_from_fresh.Statement.statement ((κs : Lfts 3) (a : _) → store.turns_from_fresh.Reads.Asked κs a)
   -- history
   pub run_answers : Answers history.run.Statement.statement ((κs : Lfts 3) (a : _) → history.run.Reads.Asked κs a)
@@ -65,7 +65,7 @@ pub record Demand1 : Type 2 where
   pub in_place_stays : EveryStepInPlace (λ s x r s'. ¬ (r.number ≡ 0) → (s' ≡ s) × (r.event ≡ no_record))
   pub turns_stay : EveryTurns (λ z table actions trace r trace'. ¬ (r ≡ 0) → trace' ≡ trace)
   -- "all 0 on a refusal"
-  pub read_zeros : EveryRead (λ list r. ¬ (r.number ≡ 0) → r ≡ refused_as_lem r.number)
+  pub read_zeros : EveryRead (λ list r. ¬ (r.number ≡ 0) → r ≡ refused_as r.number)
   -- "answers with the list's length, 0 on a refusal"
   pub write_stays : EveryWrite (λ z memory actions out r out'. ¬ (r.number ≡ 0) → Unwritten out r out')
   -- "over bytes the reader refuses it has none"

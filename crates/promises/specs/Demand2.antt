@@ -5,7 +5,7 @@ use contract.Lifetimes.{Lfts}
 use Rattle.std.specs.Borrow.{Array, u8, RattleType}
 use denote.Laws.{Is}
 use mir.Val.{Val}
-use Rattle.shape.proofs as shape
+use Rattle.shape.specs.contracts as shape
 use Rattle.store.proofs as store
 use Rattle.demands.specs.Run.{run_sizes, run_action, run_refused}
 use Rattle.figure.specs.Refusals.{Refusal, first_of, NoneApplies, numbered}

@@ -1,7 +1,8 @@
 -- The rules' other sentences about the calls: fresh stores, the step in place, unused places, the writer, the walker, the largest list. Assumes nothing.
 use Rattle.std.specs.Prelude.{◌≡◌, true, false, List, [], ◌∷◌, ◌≤◌, length, get_or}
 use contract.Lifetimes.{Lfts}
-use Rattle.shape.proofs as shape
+use Rattle.lists.proofs as lists
+use Rattle.shape.specs.contracts as shape
 use Rattle.figure.specs.Agree.{Agrees}
 use Rattle.figure.specs.Figure as Figure
 use Rattle.lists.specs.Bytes.{rows}
@@ -12,13 +13,13 @@ use Rattle.lists.specs.declared.walker.Walker.{Walker}
 use Rattle.shape.specs.Sound.{sound_of}
 use Rattle.shape.specs.Unused.{SameUsed, SameAnswer, UnusedKept}
 use Rattle.shape.specs.View.{view}
-use Rattle.promises.specs.Calls.{EveryFresh, EveryStep, EveryStepInPlace, EveryRead, EveryWrite, EveryStart, EveryNext, EveryCount, next_post}
+use Rattle.promises.specs.Calls.{EveryFresh, EveryStep, EveryStepInPlace, EveryRead, EveryWrite, EveryStart, EveryNext, EveryCount}
 use Rattle.promises.specs.Demand2.{Value, together}
 
 -- steps of a walker by the call, one after another, with what each found
 pub data Walked : Walker → List Found → Walker → Type 0 where
   none : {w : Walker} → Walked w [] w
-  more : (κs : Lfts 2) (a : _) (r : Found) (e : _) → next_post κs a r e → {fs : List Found} {w : Walker} → Walked e.0.now fs w → Walked a.0.now (r ∷ fs) w
+  more : (κs : Lfts 2) (a : _) (r : Found) (e : _) → lists.walker.next.Reads.Post κs a r e → {fs : List Found} {w : Walker} → Walked e.0.now fs w → Walked a.0.now (r ∷ fs) w
 
 pub record RulesKept : Type 0 where
   -- "A fresh store has the given memory, empty caches and empty queues."; it is sound, and "a state of zeros .. is unsound"

@@ -18,7 +18,6 @@ use Rattle.lists.specs.declared.writer.Written.{Written}
 use Rattle.shape.specs.declared.Answer.{Answer}
 use Rattle.shape.specs.declared.Made.{Made}
 use Rattle.shape.specs.declared.Stepped.{Stepped}
-use Rattle.promises.specs.Calls.{in_place_post, start_post, next_post}
 
 pub record Unique : Type 0 where
   -- figure
@@ -41,15 +40,15 @@ pub record Unique : Type 0 where
   pub write_one : (κs : Lfts 3) (a : _) (r r' : Written) (e e' : _) → lists.writer.write.Reads.Post κs a r e → lists.writer.write.Reads.Post κs a r' e' → (r ≡ r') × (e.1.1.1.0.now ≡ e'.1.1.1.0.now)
   pub action_at_one : (κs : Lfts 1) (a : _) (r r' : Found) (e e' : _) → lists.walker.action_at.Reads.Post κs a r e → lists.walker.action_at.Reads.Post κs a r' e' → r ≡ r'
   pub taken_at_one : (κs : Lfts 1) (a : _) (r r' : Taken) (e e' : _) → lists.walker.taken_at.Reads.Post κs a r e → lists.walker.taken_at.Reads.Post κs a r' e' → r ≡ r'
-  pub start_one : (κs : Lfts 1) (a : _) (r r' : Walker) (e e' : _) → start_post κs a r e → start_post κs a r' e' → r ≡ r'
-  pub next_one : (κs : Lfts 2) (a : _) (r r' : Found) (e e' : _) → next_post κs a r e → next_post κs a r' e' → (r ≡ r') × (e.0.now ≡ e'.0.now)
+  pub start_one : (κs : Lfts 1) (a : _) (r r' : Walker) (e e' : _) → lists.walker.start.Reads.Post κs a r e → lists.walker.start.Reads.Post κs a r' e' → r ≡ r'
+  pub next_one : (κs : Lfts 2) (a : _) (r r' : Found) (e e' : _) → lists.walker.next.Reads.Post κs a r e → lists.walker.next.Reads.Post κs a r' e' → (r ≡ r') × (e.0.now ≡ e'.0.now)
   pub count_one : (κs : Lfts 1) (a : _) (r r' : ℕ) (e e' : _) → lists.walker.count.Reads.Post κs a r e → lists.walker.count.Reads.Post κs a r' e' → r ≡ r'
   -- store: the answer, the lent store, every byte of the lent trace
   pub fresh_one : (κs : Lfts 1) (a : _) (r r' : Made) (e e' : _) → store.fresh.Reads.Post κs a r e → store.fresh.Reads.Post κs a r' e' → r ≡ r'
   pub sound_one : (κs : Lfts 0) (a : _) (r r' : Bool) (e e' : _) → store.sound.Reads.Post κs a r e → store.sound.Reads.Post κs a r' e' → r ≡ r'
   pub step_one : (κs : Lfts 0) (a : _) (r r' : Stepped) (e e' : _) → store.step.Reads.Post κs a r e → store.step.Reads.Post κs a r' e' → r ≡ r'
   pub once_one : (κs : Lfts 0) (a : _) (r r' : Stepped) (e e' : _) → store.once.Reads.Post κs a r e → store.once.Reads.Post κs a r' e' → r ≡ r'
-  pub in_place_one : (κs : Lfts 1) (a : _) (r r' : Answer) (e e' : _) → in_place_post κs a r e → in_place_post κs a r' e' → (r ≡ r') × (e.0.now ≡ e'.0.now)
+  pub in_place_one : (κs : Lfts 1) (a : _) (r r' : Answer) (e e' : _) → store.step_in_place.Reads.Post κs a r e → store.step_in_place.Reads.Post κs a r' e' → (r ≡ r') × (e.0.now ≡ e'.0.now)
   pub turns_one : (κs : Lfts 3) (a : _) (r r' : ℕ) (e e' : _) → store.turns_from_fresh.Reads.Post κs a r e → store.turns_from_fresh.Reads.Post κs a r' e' → (r ≡ r') × (e.1.1.1.0.now ≡ e'.1.1.1.0.now)
   -- history: the counts, every byte of trace and account
   pub run_one : (κs : Lfts 3) (a : _) (r r' : Counts) (e e' : _) → history.run.Reads.Post κs a r e → history.run.Reads.Post κs a r' e' → (r ≡ r') × ((e.1.0.now ≡ e'.1.0.now) × (e.1.1.0.now ≡ e'.1.1.0.now))
