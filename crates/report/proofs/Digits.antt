@@ -11,7 +11,7 @@ use lib.Dec.{ltb}
 use lib.ListN.{length, set, length-append}
 use Rattle.report.specs.Text.{written, Room}
 use Rattle.report.specs.Decimal.{last_digit, digits_within, decimal}
-use Rattle.report.proofs.Written.{length-written, written-before}
+use Rattle.report.proofs.Written.{written-before}
 
 -- any bound on the number of digits gives the same digits
 within-any : (k j : ℕ) (t : Bool) (n : ℕ) → ltb n 10 ≡ t → n < k → n < j → digits_within k t n ≡ digits_within j t n
@@ -54,9 +54,6 @@ length-decimal (suc k) n h = at (ltb n 10) refl (length-decimal k (n / 10))
 pub record CountingDigits (n count rest : ℕ) : Type 0 where
   pub small : count + rest ≤ n + 1
   pub left : length (decimal n) + 1 ≡ count + length (decimal rest)
-
-pub counting-digits-none : (n : ℕ) → CountingDigits n 1 n
-counting-digits-none n = record { small = omega arith; left = omega arith }
 
 pub counting-digits-more : {n count rest : ℕ} → CountingDigits n count rest → 9 < rest → CountingDigits n (count + 1) (rest / 10)
 counting-digits-more {n} {count} {rest} c h =
@@ -132,9 +129,6 @@ spelling-more {n} {i} {k} {j} {rest} {old} {out} {out'} s e eo =
       split = s.split ∙ (rw (e, append_assoc (last_digits j (rest / 10)) (d ∷ []) s.tail));
       out_is = eo ∙ rw (s.out_is, next) (written-before old (i + j) (i + k) d s.tail (omega arith));
     }
-
-pub spelling-long : {n i k rest : ℕ} {old out : List ℕ} → Spelling n old i out k rest → length out ≡ length old
-spelling-long {n} {i} {k} {rest} {old} {out} s = ap length s.out_is ∙ length-written old (i + k) s.tail
 
 pub spelling-all : {n i k rest : ℕ} {old out : List ℕ} → Spelling n old i out k rest → k ≡ 0 → out ≡ written old i (decimal n)
 unfolding last_digits

@@ -10,7 +10,7 @@ use lib.Dec.{ltb}
 use lib.ListN.{length, length-append}
 use borrow.Author.Tests.{ltb-true, ltb-false}
 use Rattle.report.specs.Text.{written, series, Printed, Room}
-use Rattle.report.proofs.Written.{printed-append, printed-long}
+use Rattle.report.proofs.Written.{printed-append}
 
 module _ (f : ℕ → List ℕ) where
   length_more : (n : ℕ) → length (series f (suc n)) ≡ length (series f n) + length (f n)
@@ -52,9 +52,6 @@ module _ {f : ℕ → List ℕ} {n : ℕ} {old : List ℕ} {i : ℕ} where
   unfolding series
   lining-more {out} {out'} {next} {r} {k} l h w =
       record { upto = omega arith; room = l.room; wrote = rw (add-one k) (printed-append l.wrote w) }
-
-  pub lining-long : {out : List ℕ} {next k : ℕ} → Lining f n old i out next k → length out ≡ length old
-  lining-long l = printed-long l.wrote
 
   pub lining-all : {out : List ℕ} {next k : ℕ} → Lining f n old i out next k → n ≤ k → Printed (series f n) old i next out
   lining-all {out} {next} {k} l h =

@@ -11,10 +11,7 @@ use Rattle.demands.specs.declared.Counts.{Counts}
 use Rattle.report.specs.Text.{ascii, written, Printed}
 use Rattle.report.specs.Decimal.{field}
 use Rattle.report.specs.Events.{account_text, refused_line}
-use Rattle.report.specs.Actions.{kind_name, field_when, ok_when, well_formed, action_text, answer_text, refusal_text, outcome_text, bytes_text, step_text, head_line, step_lines, show_text}
-
-pub name-last : (k : ℕ) → ¬ (k ≡ 1) → ¬ (k ≡ 2) → ¬ (k ≡ 3) → ¬ (k ≡ 4) → ¬ (k ≡ 5) → kind_name k ≡ ascii " CI"
-name-last k a b c d e = rw (ne_eqb k 1 a, ne_eqb k 2 b, ne_eqb k 3 c, ne_eqb k 4 d, ne_eqb k 5 e)
+use Rattle.report.specs.Actions.{field_when, ok_when, well_formed, action_text, answer_text, refusal_text, outcome_text, bytes_text, step_text, head_line, step_lines, show_text}
 
 -- ---- what may be left out
 pub printed-none : {old : List ℕ} {i : ℕ} → Printed [] old i i old

@@ -10,7 +10,7 @@ use Rattle.lists.specs.Read as Read
 use Rattle.shape.specs.Case.{Case, list_of, trace_in}
 use Rattle.shape.specs.Cases.{B4, B9}
 use Rattle.shape.specs.Turns.{bytes_of}
-use Rattle.demands.specs.Bench.{counts_of_lem, lines_in, CaseRan}
+use Rattle.demands.specs.Bench.{counts_of, lines_in, CaseRan}
 use Rattle.demands.specs.declared.Counts.{Counts}
 use Rattle.report.specs.Bench.{printed_text, Prints}
 use Rattle.report.specs.Text.{ascii, series}
@@ -38,11 +38,11 @@ unfolding account_text refused_line labelled decimal digits_within
 refused = refl
 
 -- ---- B4, shown: its list, its trace and its account
-b4 : show_text (list_of B4) (counts_of_lem B4) (bytes_of (trace_in B4)) (lines_in B4) ≡ ascii "engines 2 addresses 1 depth 2 memory 3\n1 MR 1 0 -> 3\n2 W 2 0 4 -> ok\n3 MW 2 -> 0 4\n4 CU 1 -> 0 0 3\n5 R 1 0 -> 3\n6 CU 1 -> 2 0 4\n7 R 1 0 -> 4\naccepted 7 refused 0 events 3 settled 1\n1 0 R 1 0 3\n2 1 W 2 0 4\n3 1 R 1 0 4\n"
+b4 : show_text (list_of B4) (counts_of B4) (bytes_of (trace_in B4)) (lines_in B4) ≡ ascii "engines 2 addresses 1 depth 2 memory 3\n1 MR 1 0 -> 3\n2 W 2 0 4 -> ok\n3 MW 2 -> 0 4\n4 CU 1 -> 0 0 3\n5 R 1 0 -> 3\n6 CU 1 -> 2 0 4\n7 R 1 0 -> 4\naccepted 7 refused 0 events 3 settled 1\n1 0 R 1 0 3\n2 1 W 2 0 4\n3 1 R 1 0 4\n"
 unfolding account_text counts_line labelled decimal digits_within series account_line mark_field kind_field event_fields field Bytes.u32_at show_text head_line sizes_text step_lines step_line step_text action_text field_when outcome_text refusal_text answer_text ok_when bytes_text hex_byte Read.read_of Read.read_refused Read.layout_of Read.memory_of Codec.things_at Refusals.sizes_refused Read.list_bytes Read.body_of Bytes.rows
 b4 = refl
 
 -- ---- B9, shown: badly formed actions, and an engine that is none
-b9 : show_text (list_of B9) (counts_of_lem B9) (bytes_of (trace_in B9)) (lines_in B9) ≡ ascii "engines 1 addresses 1 depth 1 memory 0\n1 bytes 07 09 00 00 00 00 00 00 -> refused 11\n2 R 9 0 -> refused 12\n3 bytes 01 01 00 01 00 00 00 05 -> refused 13\n4 bytes 01 01 00 00 00 00 00 05 -> refused 14\naccepted 0 refused 4 events 0 settled 0\n"
+b9 : show_text (list_of B9) (counts_of B9) (bytes_of (trace_in B9)) (lines_in B9) ≡ ascii "engines 1 addresses 1 depth 1 memory 0\n1 bytes 07 09 00 00 00 00 00 00 -> refused 11\n2 R 9 0 -> refused 12\n3 bytes 01 01 00 01 00 00 00 05 -> refused 13\n4 bytes 01 01 00 00 00 00 00 05 -> refused 14\naccepted 0 refused 4 events 0 settled 0\n"
 unfolding account_text counts_line labelled decimal digits_within series account_line mark_field kind_field event_fields field Bytes.u32_at show_text head_line sizes_text step_lines step_line step_text action_text field_when outcome_text refusal_text answer_text ok_when bytes_text hex_byte Read.read_of Read.read_refused Read.layout_of Read.memory_of Codec.things_at Refusals.sizes_refused Read.list_bytes Read.body_of Bytes.rows
 b9 = refl

@@ -6,7 +6,7 @@ use native.Mathlib.Nat.{add-zero, add-suc, suc-add}
 use native.Mathlib.Numerals.{add-one}
 use native.Mathlib.Omega.{arith}
 use lib.ListN.{length, get_or, set, take, length-append, length-set}
-use lib.Seq.{set_comm, take-suc, length-take-le, take-length}
+use lib.Seq.{set_comm, take-suc, length-take-le}
 use Rattle.report.specs.Text.{written, Printed, Room}
 
 pub length-written : (old : List ℕ) (i : ℕ) (text : List ℕ) → length (written old i text) ≡ length old
@@ -102,11 +102,3 @@ module _ {text old : List ℕ} {i : ℕ} where
         room = p.room;
         out_is = e ∙ rw (more, p.out_is, here) (written-append old i (take k text) (b ∷ []));
       }
-
-  pub lettering-long : {out : List ℕ} {k : ℕ} → Lettering text old i out k → length out ≡ length old
-  lettering-long {out} {k} p = ap length p.out_is ∙ length-written old i (take k text)
-
-  pub lettering-all : {out : List ℕ} {k : ℕ} → Lettering text old i out k → length text ≤ k → Printed text old i (i + k) out
-  lettering-all {out} {k} p h =
-      let e : k ≡ length text = omega (arith, p.upto) in
-      record { place = ap (λ (n : ℕ). i + n) e; bytes = p.out_is ∙ rw (e, take-length text) }

@@ -188,7 +188,7 @@ module _ {s : Store} {memory cached own : List ℕ} {held : List Bool} {outs ins
         place = pl;
         outs = ro.len ∙ lo ∙ rw (pl);
         ins = ri.len ∙ li ∙ rw (pl);
-        first-out = λ b. ring-first ro (omega (arith, ro.len)) ∙ rw (pl);
+        first_out = λ b. ring-first ro (omega (arith, ro.len)) ∙ rw (pl);
         first_in = λ b. ring-first ri (omega (arith, ri.len)) ∙ rw (pl);
         own = λ d. rw (h.owned k k8, st.number) (sym (count-any (suc k) (in_of (get_or s.ins k no_in))));
         blocked = λ d. bl d ∙ some-full-is;

@@ -145,10 +145,9 @@ pub fn step(s: Store, x: Record) -> Stepped
     }
 }
 
-// The same over a store that the scope keeps: it is looked at where it stands and, if the action is accepted, taken out, moved and put back. The scope is C, so that the call has
-// its plain name and what it is lent and answers is laid out as C does.
-#[unsafe(no_mangle)]
-pub extern "C" fn step_in_place(s: &mut Store, x: Record) -> Answer
+// The same over a store that the scope keeps: it is looked at where it stands and, if the action is accepted, taken out, moved and put back. What C calls is the export of the
+// crate store_c, which says the same.
+pub fn step_in_place(s: &mut Store, x: Record) -> Answer
     ensures { (s.new ≡ (stepped s.old x).store) × (result ≡ answer_of (stepped s.old x)) }
 {
     let c = scan::scan_of(s, x);

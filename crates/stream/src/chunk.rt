@@ -1,4 +1,4 @@
-// Chunks on standard input: each a 4-byte big-endian count, and then that many bytes.
+// Chunks of the input: each a 4-byte big-endian count, and then that many bytes.
 ghost use Rattle.std.specs.Prelude.{◌≤◌, length};
 ghost use Rattle.stream.specs.Window.{Inside, InWindow};
 

@@ -1,4 +1,4 @@
-// What a line of output is made of. A write that fails is let go, as is what the output does not take.
+// What a line of output is made of. What the writer does not take is let go.
 use crate::front::front;
 use crate::hash;
 use std::io::Write;

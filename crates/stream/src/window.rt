@@ -1,4 +1,4 @@
-// Standard input, read in pieces as large as a lent buffer has room for: the bytes that are held stand at a window of the buffer.
+// The input, read in pieces as large as a lent buffer has room for: the bytes that are held stand at a window of the buffer.
 ghost use Rattle.std.specs.Prelude.{◌≡◌, ◌+◌, ◌-◌, ◌≤◌, length};
 ghost use Rattle.io.specs.Counts.{IsPrefixLen};
 ghost use Rattle.stream.specs.Window.{Inside};

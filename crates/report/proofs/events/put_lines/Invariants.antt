@@ -1,0 +1,10 @@
+use Rattle.std.proofs.Common.{◌-◌}
+use Rattle.report.specs.Events.{account_line}
+use Rattle.report.proofs.Series.{Lining}
+use Rattle.report.proofs.events.put_lines.Given as goal
+
+abbrev pub invariant-loop-k : goal.invariant-loop-k
+invariant-loop-k l = Lining (account_line l.account) l.n l.fn.out l.at l.out l.next l.k
+
+abbrev pub decreases-loop-k : goal.decreases-loop-k
+decreases-loop-k l = l.n - l.k
