@@ -9,7 +9,7 @@ use Rattle.figure.specs.declared.Sizes.{Sizes}
 use Rattle.figure.specs.Refusals.{Refusal, ◌when◌, pick, first_of, sizes_refused, most_actions}
 use Rattle.figure.proofs.First.{Passed, test_at, refusal_at, first-at, sizes-numbered, first-append, first-front}
 use Rattle.lists.specs.Record.{record_width}
-use Rattle.lists.specs.Read.{sizes_at, after_header, after_memory, read_refused, refused_as_lem, layout_of, read_of, list_bytes}
+use Rattle.lists.specs.Read.{sizes_at, after_header, after_memory, read_refused, refused_as, layout_of, read_of, list_bytes}
 use Rattle.lists.specs.Write.{write_refused}
 
 -- past the first k refusals the others decide
@@ -19,7 +19,7 @@ first_rest (suc k) [] h = refl
 first_rest (suc k) (r ∷ rs) h = ap (λ (b : Bool). pick b r.number (first_of rs)) h.0 ∙ first_rest k rs h.1
 
 -- a refusal is its number and zeros
-pub refused_as_lem : (n : ℕ) (s : List ℕ) → ¬ (n ≡ 0) → refused_as_lem n ≡ layout_of n s
+pub refused_as_lem : (n : ℕ) (s : List ℕ) → ¬ (n ≡ 0) → refused_as n ≡ layout_of n s
 unfolding layout_of
 refused_as_lem zero s h = absurd (h refl)
 refused_as_lem (suc n) s h = refl
@@ -40,7 +40,7 @@ module _ (s : List ℕ) where
 
   module _ (past : Passed 3 (read_refused s)) where
     -- a refusal of the sizes
-    pub read-sizes : (n : ℕ) → n ≡ first_of (sizes_refused (sizes_at s)) → ¬ (n ≡ 0) → refused_as_lem n ≡ read_of s
+    pub read-sizes : (n : ℕ) → n ≡ first_of (sizes_refused (sizes_at s)) → ¬ (n ≡ 0) → refused_as n ≡ read_of s
     unfolding read_of read_refused
     read-sizes n e h =
         refused_as_lem n s h

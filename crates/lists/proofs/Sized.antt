@@ -13,7 +13,7 @@ use Rattle.figure.proofs.First.{first-none, none_first, sizes-numbered, none-spl
 use Rattle.lists.specs.Bytes.{u32_at}
 use Rattle.lists.specs.Record.{record_width}
 use Rattle.lists.specs.declared.reader.Layout.{Layout}
-use Rattle.lists.specs.Read.{version, header_width, version_at, sizes_at, after_header, after_memory, read_refused, refused_as_lem, taken_as, layout_of, read_of}
+use Rattle.lists.specs.Read.{version, header_width, version_at, sizes_at, after_header, after_memory, read_refused, refused_as, taken_as, layout_of, read_of}
 
 -- ---- the reader refuses exactly if a rule of its list applies
 pub read-numbered : (s : List ℕ) → numbered (read_refused s) ≡ true
@@ -31,13 +31,13 @@ unfolding read_of
 read_number s = number_is (first_of (read_refused s)) s
 
 -- "all 0 on a refusal"
-pub read-refused : (s : List ℕ) (r : Layout) → r ≡ read_of s → ¬ (r.number ≡ 0) → r ≡ refused_as_lem r.number
+pub read-refused : (s : List ℕ) (r : Layout) → r ≡ read_of s → ¬ (r.number ≡ 0) → r ≡ refused_as r.number
 unfolding read_of layout_of
 read-refused s r h n = at (first_of (read_refused s)) h
   where
-    at : (k : ℕ) → r ≡ layout_of k s → r ≡ refused_as_lem r.number
+    at : (k : ℕ) → r ≡ layout_of k s → r ≡ refused_as r.number
     at zero e = absurd (n (ap (λ (l : Layout). l.number) e))
-    at (suc k) e = e ∙ ap refused_as_lem (sym (ap (λ (l : Layout). l.number) e))
+    at (suc k) e = e ∙ ap refused_as (sym (ap (λ (l : Layout). l.number) e))
 
 pub taken_none : (s : List ℕ) → (read_of s).number ≡ 0 → NoneApplies (read_refused s)
 taken_none s h = none_first (read_refused s) (read-numbered s) (sym (read_number s) ∙ h)

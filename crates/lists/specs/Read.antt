@@ -57,8 +57,8 @@ read_refused s =
     ∷ []
 
 -- "all 0 on a refusal"
-abbrev pub refused_as_lem : ℕ → Layout
-refused_as_lem n =
+abbrev pub refused_as : ℕ → Layout
+refused_as n =
     record { number = n; sizes = record { engines = 0; addresses = 0; depth = 0 }; memory_at = 0; actions_at = 0; actions = 0 }
 
 -- "The reader gives the sizes and where memory and actions begin"
@@ -68,7 +68,7 @@ taken_as s =
 
 unfoldable pub layout_of : ℕ → List ℕ → Layout
 layout_of zero s = taken_as s
-layout_of (suc n) s = refused_as_lem (suc n)
+layout_of (suc n) s = refused_as (suc n)
 
 unfoldable pub read_of : List ℕ → Layout
 read_of s = layout_of (first_of (read_refused s)) s
