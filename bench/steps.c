@@ -1,6 +1,6 @@
 /* Random steps on one store that stays where it stands. `steps plain N` takes them in plain C, `steps proved N`
- * by the proved step_in_place in the archive that `rt staticlib store` writes; each prints a sum of all that was
- * answered. The plain step makes the same test of the whole state before it. It is the bench's measure of what
+ * by the proved step_in_place in the archive that `rt lib` writes in crates/store_c; each prints a sum of all that
+ * was answered. The plain step makes the same test of the whole state before it. It is the bench's measure of what
  * such a step costs without proofs, and no one's model of the rules.
  *
  * It includes no header: the kit's compiler, which makes it x86-64 code on every machine, has none. */

@@ -1,11 +1,11 @@
 -- Laws on a queue in an array, at any type of element: what a loop over its places has made of it after i turns. Assumes nothing.
 use mathlib.Core.Path.{◌≡◌, refl, ap, sym, ◌∙◌}
-use mathlib.Core.List.{List, [], ◌∷◌, ◌++◌, append_assoc, map, tail}
+use mathlib.Core.List.{List, [], ◌∷◌, ◌++◌, append_assoc, tail}
 use Prim.Native.Nat.{ℕ, zero, suc, ◌+◌, ◌-◌, ◌≤◌, ◌<◌}
 use native.Mathlib.Numerals.{add-one, sub-one}
 use native.Mathlib.Nat.{add_comm, not-suc-le-zero}
 use native.Mathlib.Omega.{arith}
-use lib.ListN.{length, take, drop, set, get_or, length-append, length-take, length-drop, length-map}
+use lib.ListN.{length, take, drop, set, get_or, length-append, length-take, length-drop}
 use lib.Seq.{set_split, length-take-le, drop-cons, take-suc, set_at, get_or-drop, get_or-append-add}
 use Rattle.shape.specs.Parts.{over, change, firsts}
 
@@ -82,7 +82,3 @@ module _ {A : Type 0} where
   change-set i f [] d = refl
   change-set zero f (x ∷ l) d = refl
   change-set (suc i) f (x ∷ l) d = ap (λ (t : List A). x ∷ t) (change-set i f l d)
-
--- an array field's length, which what is known of the struct gives of the field's machine values
-pub long : {X Y : Type 0} (f : X → Y) (l : List X) (n : ℕ) → length (map f l) ≡ n → length l ≡ n
-long f l n h = sym (length-map l f) ∙ h
