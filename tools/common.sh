@@ -26,10 +26,10 @@ need_tool() { # NAME
     mv -f "$made.$$" "$made"
 }
 
-# Whether target/FILE is there and nothing in crates/ is newer, what rt itself leaves in out/ aside.
+# Whether target/FILE is there and nothing in crates/ is newer, what rt itself leaves in crates/NAME/out aside (which gives crates/NAME a newer date).
 is_made() { # FILE
     local made=$root/target/$1
-    [ -e "$made" ] && [ -z "$(find "$root/crates" "$root/crates.txt" -name out -prune -o -newer "$made" -print -quit 2>/dev/null)" ]
+    [ -e "$made" ] && [ -z "$(find "$root/crates" "$root/crates.txt" -name out -prune -o -type d -path "$root/crates/*" ! -path "$root/crates/*/*" -o -newer "$made" -print -quit 2>/dev/null)" ]
 }
 
 # Has rt prove the crate and build it by that word, and takes what it leaves in the crate's out/ to target/FILE, unless that is made.
