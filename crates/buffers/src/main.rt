@@ -6,103 +6,46 @@ mod rows;
 mod runs;
 mod writes;
 
-ghost use Rattle.std.specs.Prelude.{◌≡◌, ◌≤◌, length};
+ghost use Rattle.std.specs.Prelude.{◌≤◌, length};
 ghost use Rattle.stream.specs.Room.{most_held};
-ghost use Rattle.stream.specs.Window.{Inside, InWindow};
 
 use std::io::{Read, Write};
-use stream::chunk::{Came, Chunk};
 use stream::room::MOST_HELD;
-use stream::told;
-use stream::window::Window;
-
-// What is held of the input, and whether to go on.
-#[derive(Clone, Copy)]
-struct State {
-    window: Window,
-    more: bool,
-}
+use stream::window::{CutShort, Window};
 
 fn tell_list<W: Write>(writer: &mut W, list: &[u8]) {
-    told::text(writer, b"list");
-    told::number(writer, list.len());
-    told::text(writer, b"\n");
+    let _ = writeln!(writer, "list {}", list.len());
     runs::tell(writer, list);
     writes::tell(writer, list);
 }
 
-fn cut_short<W: Write>(writer: &mut W) -> State
-    ensures { (result.window.from ≡ 0) × (result.window.to ≡ 0) }
-{
-    told::cut_short(writer);
-    State {
-        window: Window { from: 0, to: 0 },
-        more: false,
-    }
-}
-
 // A chunk that is longer than what a run is handed ends the input, as one that is cut short does.
-fn tell_chunk<W: Write>(writer: &mut W, input: &[u8], c: Chunk) -> State
-    requires { InWindow c input.now }
-    ensures { Inside result.window input.now }
+// Kept: a count that no input uses up, since a proved loop has to end and no function may gain a Wait bound.
+// Kept: a loop here and in `replay`: the bodies differ in all but the call for the next chunk, and a closure that does their work would have to promise that the window keeps its room.
+fn tell_chunks<R: Read, W: Write>(input: &mut Window<R>, writer: &mut W) -> Result<(), CutShort>
+    requires { most_held ≤ length input.old.buffer.now }
 {
-    if c.rest > 0 {
-        return cut_short(writer);
+    for _ in 0..u64::MAX {
+        let Some(chunk) = input.next_chunk(MOST_HELD)? else {
+            break;
+        };
+        let missing = chunk.len - chunk.taken;
+        if missing > 0 {
+            return Err(CutShort { missing });
+        }
+        tell_list(writer, &input.held()[..chunk.taken]);
+        input.drop_bytes(chunk.len)?;
     }
-    let w = c.window;
-    let from = w.from;
-    let end = from + c.taken;
-    tell_list(writer, &input[from..end]);
-    State {
-        window: Window {
-            from: end,
-            to: w.to,
-        },
-        more: true,
-    }
-}
-
-fn tell_next<R: Read, W: Write>(
-    reader: &mut R,
-    writer: &mut W,
-    input: &mut [u8],
-    w: Window,
-) -> State
-    requires { Inside w input.old × (most_held ≤ length input.old) }
-    ensures { Inside result.window input.old }
-{
-    let c = stream::chunk::next(reader, input, w, MOST_HELD);
-    let came = c.came;
-    let window = c.window;
-    match came {
-        Came::Whole => tell_chunk(writer, input, c),
-        Came::End => State {
-            window,
-            more: false,
-        },
-        Came::Short => cut_short(writer),
-    }
-}
-
-// A proved loop has to end, and nothing says that the input does: the count is one that no input uses up.
-fn tell_chunks<R: Read, W: Write>(reader: &mut R, writer: &mut W, input: &mut [u8])
-    requires { most_held ≤ length input.old }
-{
-    let mut s = State {
-        window: Window { from: 0, to: 0 },
-        more: true,
-    };
-    let mut chunks_left = u64::MAX;
-    while chunks_left > 0 && s.more {
-        s = tell_next(reader, writer, input, s.window);
-        chunks_left -= 1;
-    }
+    Ok(())
 }
 
 fn main(rt: HostRuntime) {
     let mut reader = rt.stdin();
     let mut writer = rt.stdout();
     rows::tell_all(&mut writer);
-    let mut input = [0u8; MOST_HELD];
-    tell_chunks(&mut reader, &mut writer, &mut input);
+    let mut buffer = [0u8; MOST_HELD];
+    let mut input = Window::new(&mut reader, &mut buffer);
+    if let Err(e) = tell_chunks(&mut input, &mut writer) {
+        let _ = writeln!(writer, "{e}");
+    }
 }

@@ -3,9 +3,9 @@ ghost use Rattle.std.specs.Prelude.{◌≤◌};
 ghost use Rattle.stream.specs.Room.{most_account};
 
 use crate::lent;
-use demands::Counts;
 use std::io::Write;
 use stream::front::front;
+use stream::hash::hash;
 use stream::room::{MOST_ACCOUNT, MOST_TRACE, account_bytes, trace_bytes};
 use stream::told;
 
@@ -14,121 +14,76 @@ const TRACE_SPARE: usize = 5;
 
 const ACCOUNT_SPARE: usize = 7;
 
-// The line of a run that was lent these buffers; how many bytes the account took.
-fn tell_run<W: Write>(writer: &mut W, list: &[u8], c: Counts, trace: &[u8], account: &[u8]) -> usize
-    ensures { result ≤ most_account }
-{
-    told::byte(writer, c.number);
-    told::number(writer, c.accepted);
-    told::number(writer, c.refused);
-    told::number(writer, c.events);
-    told::number(writer, c.settled);
-    let t = trace_bytes(list, c.number);
-    let a = account_bytes(c.events, c.number);
-    lent::tell_untouched(
-        writer,
-        lent::is_untouched(trace, t) && lent::is_untouched(account, a),
-    );
-    told::hash_front(writer, trace, t);
-    told::hash_front(writer, account, a);
-    told::text(writer, b"\n");
-    a
+// The list, and the buffers of which each run is lent the front.
+#[derive(Drop)]
+struct Runs<'a, W> {
+    writer: &'a mut W,
+    list: &'a [u8],
+    trace: &'a mut [u8],
+    account: &'a mut [u8],
 }
 
-fn run_line<W: Write>(
-    writer: &mut W,
-    name: &[u8],
-    list: &[u8],
-    trace: &mut [u8],
-    account: &mut [u8],
-) -> usize
-    ensures { result ≤ most_account }
-{
-    lent::fill(trace);
-    lent::fill(account);
-    let c = history::run(list, trace, account);
-    told::text(writer, name);
-    tell_run(writer, list, c, trace, account)
-}
-
-// The same with the first t and the first a bytes of two larger buffers.
-fn run_with<W: Write>(
-    writer: &mut W,
-    name: &[u8],
-    list: &[u8],
-    trace: &mut [u8],
-    t: usize,
-    account: &mut [u8],
-    a: usize,
-) -> usize
-    ensures { result ≤ most_account }
-{
-    let t_end = front(trace, t);
-    let a_end = front(account, a);
-    run_line(
-        writer,
-        name,
-        list,
-        &mut trace[..t_end],
-        &mut account[..a_end],
-    )
-}
-
-// The runs whose buffers are too short, where there is a byte to take away.
-fn tell_short<W: Write>(
-    writer: &mut W,
-    list: &[u8],
-    trace: &mut [u8],
-    t: usize,
-    account: &mut [u8],
-    a: usize,
-) {
-    if t == 0 {
-        return;
+impl<W: Write> Runs<'_, W> {
+    // Prints the line of a run that is lent so many bytes for the trace and for the account; how many of the latter it took.
+    fn tell(&mut self, name: &str, trace_room: usize, account_room: usize) -> usize
+        ensures { result ≤ most_account }
+    {
+        let t_end = trace_room.min(self.trace.len());
+        let a_end = account_room.min(self.account.len());
+        let trace = &mut self.trace[..t_end];
+        let account = &mut self.account[..a_end];
+        lent::fill(trace);
+        lent::fill(account);
+        let said = history::run(self.list, trace, account);
+        let (t, a) = said.map_or(
+            (0, 0),
+            |c| (trace_bytes(self.list), account_bytes(c.events)),
+        );
+        let c = said.unwrap_or_default();
+        let is_untouched = lent::is_untouched(trace, t) && lent::is_untouched(account, a);
+        let rest = if is_untouched { "untouched" } else { "TOUCHED" };
+        let _ = writeln!(
+            self.writer,
+            "{name} {} {} {} {} {} {rest} {:016x} {:016x}",
+            told::number(&said),
+            c.accepted,
+            c.refused,
+            c.events,
+            c.settled,
+            hash(front(trace, t)),
+            hash(front(account, a))
+        );
+        a
     }
-    run_with(writer, b"run short trace", list, trace, t - 1, account, a);
-    if a == 0 {
-        return;
+
+    // The runs whose buffers are too short, where there is a byte to take away.
+    fn tell_short(&mut self, t: usize, a: usize) {
+        let Some(t_short) = t.checked_sub(1) else {
+            return;
+        };
+        self.tell("run short trace", t_short, a);
+        let Some(a_short) = a.checked_sub(1) else {
+            return;
+        };
+        self.tell("run short account", t, a_short);
+        self.tell("run both short", t_short, a_short);
     }
-    run_with(writer, b"run short account", list, trace, t, account, a - 1);
-    run_with(
-        writer,
-        b"run both short",
-        list,
-        trace,
-        t - 1,
-        account,
-        a - 1,
-    );
 }
 
 pub(crate) fn tell<W: Write>(writer: &mut W, list: &[u8]) {
-    let mut trace = [0u8; MOST_TRACE + TRACE_SPARE];
-    let mut account = [0u8; MOST_ACCOUNT + ACCOUNT_SPARE];
-    let a = run_with(
+    let mut runs = Runs {
         writer,
-        b"run full",
         list,
-        &mut trace,
-        MOST_TRACE,
-        &mut account,
-        MOST_ACCOUNT,
-    );
-    let l = lists::reader::read(list);
-    if l.number != 0 {
-        run_with(writer, b"run nothing", list, &mut trace, 0, &mut account, 0);
+        trace: &mut [0u8; MOST_TRACE + TRACE_SPARE],
+        account: &mut [0u8; MOST_ACCOUNT + ACCOUNT_SPARE],
+    };
+    let a = runs.tell("run full", MOST_TRACE, MOST_ACCOUNT);
+    if lists::reader::read(list).is_err() {
+        runs.tell("run nothing", 0, 0);
         return;
     }
-    let t = trace_bytes(list, l.number);
-    run_with(writer, b"run exact", list, &mut trace, t, &mut account, a);
-    run_with(
-        writer,
-        b"run longer",
-        list,
-        &mut trace,
-        t + TRACE_SPARE,
-        &mut account,
-        a + ACCOUNT_SPARE,
-    );
-    tell_short(writer, list, &mut trace, t, &mut account, a);
+    let t = trace_bytes(list);
+    runs.tell("run exact", t, a);
+    runs.tell("run longer", t + TRACE_SPARE, a + ACCOUNT_SPARE);
+    runs.tell_short(t, a);
 }

@@ -1,52 +1,57 @@
-// A list that the reader takes, written again into outputs of different lengths.
+// The writer lent an output, and a list that the reader takes, written again into outputs of different lengths.
 use crate::lent;
-use lists::reader::MOST_LIST;
+use figure::{Refused, Sizes};
+use lists::reader::{Layout, MOST_LIST};
 use std::io::Write;
-use stream::front::{front, front_words};
+use stream::front::front;
 use stream::told;
 
 // How many bytes the longer output has to spare.
 const SPARE: usize = 11;
 
-// Lends the output to the writer and prints its line.
-fn write_line<W: Write>(writer: &mut W, name: &[u8], list: &[u8], out: &mut [u8]) {
+// Lends the output to the writer, and prints the number and the length that it answers and whether it left the rest untouched.
+pub(crate) fn tell_answer<W: Write>(
+    writer: &mut W,
+    sizes: Sizes,
+    table: &[u32],
+    actions: &[u8],
+    out: &mut [u8],
+) -> Result<usize, Refused> {
     lent::fill(out);
-    let l = lists::reader::read(list);
-    let sizes = l.sizes;
-    let table = lists::memory::memory_of(list);
-    let m = front_words(&table, sizes.addresses as usize);
-    let at = front(list, l.actions_at);
-    let w = lists::writer::write(sizes, &table[..m], &list[at..], out);
-    told::text(writer, name);
-    told::byte(writer, w.number);
-    told::number(writer, w.length);
-    lent::tell_untouched(writer, lent::is_untouched(out, w.length));
-    if w.number == 0 {
-        let end = front(out, w.length);
-        told::whether_same(writer, check::same(list, &out[..end]));
-    }
-    told::text(writer, b"\n");
+    let said = lists::writer::write(sizes, table, actions, out);
+    let length = said.unwrap_or(0);
+    let is_untouched = lent::is_untouched(out, length);
+    let rest = if is_untouched { "untouched" } else { "TOUCHED" };
+    let _ = write!(writer, "{} {length} {rest}", told::number(&said));
+    said
 }
 
-// The same with the first n bytes of a larger output.
-fn write_with<W: Write>(writer: &mut W, name: &[u8], list: &[u8], out: &mut [u8], n: usize) {
-    let end = front(out, n);
-    write_line(writer, name, list, &mut out[..end]);
+// Writes the list again and prints its line.
+fn write_line<W: Write>(writer: &mut W, name: &str, list: &[u8], l: Layout, out: &mut [u8]) {
+    let table = lists::memory::memory_of(list);
+    let words = front(&table, usize::from(l.sizes.addresses));
+    let actions = &list[l.actions_at.min(list.len())..];
+    let _ = write!(writer, "write {name} ");
+    if let Ok(length) = tell_answer(writer, l.sizes, words, actions, out) {
+        let same = told::whether_same(list == front(out, length));
+        let _ = write!(writer, " {same}");
+    }
+    let _ = writeln!(writer);
 }
 
 pub(crate) fn tell<W: Write>(writer: &mut W, list: &[u8]) {
-    let l = lists::reader::read(list);
-    if l.number != 0 {
+    let Ok(l) = lists::reader::read(list) else {
         return;
-    }
-    if list.len() == 0 {
+    };
+    let n = list.len();
+    let Some(short) = n.checked_sub(1) else {
         return;
-    }
-    if MOST_LIST < list.len() {
+    };
+    if MOST_LIST < n {
         return;
     }
     let mut out = [0u8; MOST_LIST + SPARE];
-    write_with(writer, b"write short", list, &mut out, list.len() - 1);
-    write_with(writer, b"write exact", list, &mut out, list.len());
-    write_with(writer, b"write longer", list, &mut out, list.len() + SPARE);
+    write_line(writer, "short", list, l, &mut out[..short]);
+    write_line(writer, "exact", list, l, &mut out[..n]);
+    write_line(writer, "longer", list, l, &mut out[..n + SPARE]);
 }

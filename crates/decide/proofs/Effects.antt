@@ -4,29 +4,29 @@ use mathlib.Core.Bool.{Bool, true, false, not}
 use mathlib.Core.List.{List, [], ◌∷◌, ◌++◌}
 use Prim.Native.Nat.{ℕ, zero, suc, pred, ◌<◌, ◌≤◌}
 use native.Mathlib.Omega.{arith}
-use lib.Dec.{eqb, leb}
+use lib.Dec.{leb}
 use lib.ListN.{set, get_or}
 use lib.Seq.{set-get_or}
-use borrow.Author.Tests.{eqb-false, ltb-true, leb-true}
-use Rattle.figure.specs.Figure.{Step, MW, CU}
-use Rattle.figure.specs.Refusals.{◌when◌, pick, first_of}
+use borrow.Author.Tests.{ltb-true, leb-true}
+use Rattle.std.specs.Prelude.{Some, None, is_some}
+use Rattle.figure.specs.Figure.{Step}
+use Rattle.figure.specs.Refusals.{◌when◌, pick, first_of, most_engines, most_addresses, most_depth}
+use Rattle.figure.specs.declared.Address.{Address}
 use Rattle.figure.specs.declared.Record.{Record}
 use Rattle.figure.proofs.First.{none_first, first-front, first-append}
 use Rattle.figure.proofs.Laws.{and_left, and_right}
-use Rattle.figure.specs.Refusals.{most_engines, most_addresses, most_depth}
-use Rattle.shape.specs.Parts.{change, dropped, in_of, in_joined, no_in_entry, no_out, no_in}
+use Rattle.shape.specs.Parts.{change, in_cache, cached_value, cached_word, dropped, in_of, in_joined, no_in_entry, no_out, no_in}
 use Rattle.shape.specs.Sound.{sound_of}
-use Rattle.shape.specs.Step.{out_at, in_at, oldest_out, oldest_in, memory_at, in_entry, some_full, form_refused, turn_refused, step_refused, action_of, effect, event_of, answered, stepped}
+use Rattle.shape.specs.Step.{out_at, in_at, cache_at, oldest_out, oldest_in, memory_at, in_entry, form_refused, turn_refused, step_refused, action_of, effect, event_of, answered, stepped}
 use Rattle.shape.specs.declared.Cache.{Cache}
 use Rattle.shape.specs.declared.Store.{Store}
 use Rattle.shape.proofs.Kept.{Sound, sound-parts, ranged, out-sound, in-sound, oldest-sound, oldest-in-sound}
 use Rattle.shape.proofs.Shaped.{room-each}
 use Rattle.shape.proofs.Taken.{Asks, asks_r, asks_w, asks_mw, asks_mr, asks_cu, asks_ci, asked, form-numbered, turn-numbered, Goes, goes_r, goes_w, goes_mw, goes_mr, goes_cu, goes_ci, goes}
-use Rattle.decide.specs.Move.{to_memory, refusing, decided, look_refused, allowed_move, move_of}
+use Rattle.decide.specs.Move.{Turned, to_memory, refusing, decided, look_refused, allowed_move, move_of}
 use Rattle.decide.specs.Effect.{between, left_in, done, Seen}
 use Rattle.decide.proofs.Says.{first-miss, unsound-move, badly-formed}
 use Rattle.decide.specs.declared.Look.{Look}
-use Rattle.decide.specs.declared.Move.{Move}
 
 -- ---- places that a move leaves as they are
 
@@ -62,51 +62,44 @@ queues-same k l = change-none _ (λ q. refl) k l
 
 -- ---- what is looked at decides as the store itself does
 
+-- the cache's word is there exactly if the address is in the cache, and then it is the value
+word-there : (c : Cache) (a : Address) → is_some (cached_word c a) ≡ in_cache c a
+word-there c a = at (in_cache c a)
+  where
+    at : (t : Bool) → is_some (pick t (Some (cached_value c a)) None) ≡ t
+    at true = refl
+    at false = refl
+
+word-value : (c : Cache) (a : Address) → in_cache c a ≡ true → cached_word c a ≡ Some (cached_value c a)
+word-value c a e = rw (e)
+
 module _ (s : Store) (l : Look) where
   look-first : {x : Record} {t : Step} → Asks s.sizes x t → {p : ℕ} → Seen s x p l → first_of (look_refused s.sizes l t) ≡ first_of (turn_refused s t)
   unfolding turn_refused
-  look-first (asks_r k a) e = rw (e.outs, e.own refl, e.held)
+  look-first (asks_r {k = i} {a = a} k b) e = rw (e.outs, e.own refl, e.cached, word-there (cache_at s (suc i)) (record { 0 = a }))
   look-first (asks_w k a) e = rw e.outs
   look-first (asks_mw k) e = rw (e.outs, e.blocked refl)
   look-first (asks_mr k a) e = rw e.ins
   look-first (asks_cu k) e = rw e.ins
   look-first (asks_ci k a) e = refl
 
-  -- an allowed MW or CU has an oldest entry
-  some_out : (i : ℕ) → first_of (turn_refused s (MW i)) ≡ 0 → 0 < (out_at s i).len
-  unfolding turn_refused
-  some_out i o = at (eqb (out_at s i).len 0) refl o
-    where
-      at : (t : Bool) → eqb (out_at s i).len 0 ≡ t → ◌≡◌ {A = ℕ} (pick t 25 (pick (some_full s) 26 0)) 0 → 0 < (out_at s i).len
-      at true e h = absurd (omega arith)
-      at false e h = let n = eqb-false (out_at s i).len 0 e in omega arith
-
-  some_in : (i : ℕ) → first_of (turn_refused s (CU i)) ≡ 0 → 0 < (in_at s i).len
-  unfolding turn_refused
-  some_in i o = at (eqb (in_at s i).len 0) refl o
-    where
-      at : (t : Bool) → eqb (in_at s i).len 0 ≡ t → ◌≡◌ {A = ℕ} (pick t 28 0) 0 → 0 < (in_at s i).len
-      at true e h = absurd (omega arith)
-      at false e h = let n = eqb-false (in_at s i).len 0 e in omega arith
-
   -- an allowed step: its move answers and changes what the step does
-  acts : {x : Record} {t : Step} → Asks s.sizes x t → {p : ℕ} → Seen s x p l → first_of (turn_refused s t) ≡ 0
+  acts : {x : Record} {t : Step} → Goes s x t → {p : ℕ} → Seen s x p l
       → done (allowed_move s.sizes x l t) (pred x.engine.0) s ≡ record { number = 0; store = effect s t; event = event_of s x t }
-  acts (asks_r {k = i} {a = a} k b) e o = rw (e.cached, set-get_or s.memory a 0, caches-same i a s.caches, queues-same i s.outs, queues-same i s.ins)
-  acts (asks_w {k = i} {a = a} k b) e o = rw (set-get_or s.memory a 0, caches-same i a s.caches, queues-same i s.ins)
-  acts (asks_mw {k = i} k) e o =
-      rw (e.first_out (rw e.outs (some_out (suc i) o)), caches-same i (oldest_out s (suc i)).address.0 s.caches, queues-same i s.ins)
-  acts (asks_mr {k = i} {a = a} k b) e o =
+  acts (goes_r {k = i} {a = a} k b o w c) e =
+      rw (e.cached, word-value (cache_at s (suc i)) (record { 0 = a }) c, set-get_or s.memory a 0, caches-same i a s.caches, queues-same i s.outs, queues-same i s.ins)
+  acts (goes_w {k = i} {a = a} k b r) e = rw (set-get_or s.memory a 0, caches-same i a s.caches, queues-same i s.ins)
+  acts (goes_mw {k = i} k r f) e = rw (e.first_out (rw e.outs r), caches-same i (oldest_out s (suc i)).address.0 s.caches, queues-same i s.ins)
+  acts (goes_mr {k = i} {a = a} k b r) e =
       rw (e.stored, set-get_or s.memory a 0, caches-same i a s.caches, queues-same i s.outs, queues-same i s.ins, between-one (in_joined (in_entry 0 a (memory_at s a))) i s.ins)
-  acts (asks_cu {k = i} k) e o =
-      rw (e.first_in (rw e.ins (some_in (suc i) o)), set-get_or s.memory (oldest_in s (suc i)).address.0 0, queues-same i s.outs)
-  acts (asks_ci {k = i} {a = a} k b) e o =
+  acts (goes_cu {k = i} k r) e = rw (e.first_in (rw e.ins r), set-get_or s.memory (oldest_in s (suc i)).address.0 0, queues-same i s.outs)
+  acts (goes_ci {k = i} {a = a} k b) e =
       rw (set-get_or s.memory a 0, queues-same i s.outs, queues-same i s.ins, change-alike _ _ (λ c. cache-dropped c a) i s.caches)
 
 -- ---- the move of any action, whose engine's parts stand at place k
 
 -- what carrying a move out may rely on
-pub record Carries (s : Store) (k : ℕ) (m : Move) : Type 0 where
+pub record Carries (s : Store) (k : ℕ) (m : Turned) : Type 0 where
   pub one_out : m.out_left ≤ 1
   pub one_in : m.in_left ≤ 1
   pub one_joins : m.out_joins ≤ 1
@@ -122,7 +115,7 @@ pub record Carries (s : Store) (k : ℕ) (m : Move) : Type 0 where
   pub plain : ¬ (m.word ≡ to_memory) → (j : ℕ) → m.from ≤ j → j < m.to → m.entry.origin.0 ≡ 0
   pub oldest : m.in_left ≡ 1 → (m.entry ≡ get_or (in_of (get_or s.ins k no_in)) 0 no_in_entry) × (m.to ≡ 0)
 
-still-carries : (s : Store) (k : ℕ) (m : Move) → m.out_left ≡ 0 → m.in_left ≡ 0 → m.out_joins ≡ 0 → m.from ≡ 0 → m.to ≡ 0 → ¬ (m.word ≡ to_memory) → m.entry.address.0 < most_addresses → Carries s k m
+still-carries : (s : Store) (k : ℕ) (m : Turned) → m.out_left ≡ 0 → m.in_left ≡ 0 → m.out_joins ≡ 0 → m.from ≡ 0 → m.to ≡ 0 → ¬ (m.word ≡ to_memory) → m.entry.address.0 < most_addresses → Carries s k m
 still-carries s k m e₁ e₂ e₃ e₄ e₅ w a =
     record {
       one_out = omega arith;
@@ -144,9 +137,12 @@ module _ (s : Store) (x : Record) (k : ℕ) (l : Look) where
   refuses : (n : ℕ) → done (refusing (suc n)) k s ≡ answered (suc n) s x
   refuses n = rw (set-get_or s.memory 0 0, caches-same k 0 s.caches, queues-same k s.outs, queues-same k s.ins)
 
+  going : first_of (form_refused s.sizes x) ≡ 0 → first_of (turn_refused s (action_of x)) ≡ 0 → Goes s x (action_of x)
+  going f o = goes s (asked s.sizes x f) (none_first (turn_refused s (action_of x)) (turn-numbered s (action_of x)) o)
+
   in_turn : first_of (form_refused s.sizes x) ≡ 0 → Seen s x k l → (n : ℕ) → first_of (turn_refused s (action_of x)) ≡ n
       → done (decided n (allowed_move s.sizes x l (action_of x))) k s ≡ answered n s x
-  in_turn f e zero o = rw e.place (acts s l (asked s.sizes x f) e o)
+  in_turn f e zero o = rw e.place (acts s l (going f o) e)
   in_turn f e (suc n) o = refuses n
 
   -- what a move that a sound store allows relies on
@@ -235,7 +231,7 @@ module _ (s : Store) (x : Record) (k : ℕ) (l : Look) where
 
     turn-carries : first_of (form_refused s.sizes x) ≡ 0 → Seen s x k l → (n : ℕ) → first_of (turn_refused s (action_of x)) ≡ n
         → Carries s k (decided n (allowed_move s.sizes x l (action_of x)))
-    turn-carries f e zero o = allowed-carries (goes s (asked s.sizes x f) (none_first (turn_refused s (action_of x)) (turn-numbered s (action_of x)) o)) e
+    turn-carries f e zero o = allowed-carries (going f o) e
     turn-carries f e (suc n) o = still-carries s k _ refl refl refl refl refl (λ o. omega arith) (omega arith)
 
   -- a sound store and a well-formed record; a sound store and a badly formed one; an unsound store
@@ -250,7 +246,7 @@ module _ (s : Store) (x : Record) (k : ℕ) (l : Look) where
   -- what was looked at is what the store shows, as far as an action asks
   module _ (e : l.sound ≡ sound_of s) (g : sound_of s ≡ true → first_of (form_refused s.sizes x) ≡ 0 → Seen s x k l) where
     -- the step is what the move does
-    pub decides : {m : Move} → m ≡ move_of s.sizes x l → done m k s ≡ stepped s x
+    pub decides : {m : Turned} → m ≡ move_of s.sizes x l → done m k s ≡ stepped s x
     unfolding stepped step_refused
     decides w = rw (w) (of (sound_of s) refl)
       where
@@ -264,7 +260,7 @@ module _ (s : Store) (x : Record) (k : ℕ) (l : Look) where
         of true h = rw (h) (formed h (first_of (form_refused s.sizes x)) refl)
         of false h = rw (h, ← (unsound-move s.sizes x l (ap not (e ∙ h)))) (refuses 16)
 
-    pub carries : {m : Move} → m ≡ move_of s.sizes x l → Carries s k m
+    pub carries : {m : Turned} → m ≡ move_of s.sizes x l → Carries s k m
     carries w = rw (w) (of (sound_of s) refl)
       where
         formed : sound_of s ≡ true → (n : ℕ) → first_of (form_refused s.sizes x) ≡ n → Carries s k (move_of s.sizes x l)

@@ -1,62 +1,42 @@
 // Refusals 11 to 14: of the record alone.
-ghost use Rattle.std.specs.Prelude.{◌≡◌, ◌&&◌, ◌||◌, eqb, leb};
+ghost use Rattle.std.specs.Prelude.{◌≡◌, ◌&&◌, leb, IfOk};
+ghost use Rattle.figure.specs.Kind.{code_of};
 ghost use Rattle.figure.specs.Refusals.{first_of};
-ghost use Rattle.shape.specs.Step.{form_refused, uses_address, uses_data, fields_right};
+ghost use Rattle.figure.specs.Refused.{number_in};
+ghost use Rattle.shape.specs.Step.{form_refused, uses_address, fields_right};
 
-use figure::{Record, Sizes};
+use figure::{Kind, Record, Refused, Sizes};
 
-fn uses_address(kind: u8) -> bool
-    ensures { result ≡ uses_address kind }
+fn address_outside(z: Sizes, kind: Kind, x: Record) -> bool
+    ensures { result ≡ (uses_address (code_of kind) && leb z.addresses x.address.0) }
 {
-    kind != 3 && kind != 5
-}
-
-fn address_outside(z: Sizes, x: Record) -> bool
-    ensures { result ≡ (uses_address x.kind && leb z.addresses x.address.0) }
-{
-    uses_address(x.kind) && z.addresses <= x.address.0
-}
-
-fn address_right(x: Record) -> bool
-    ensures { result ≡ (uses_address x.kind || eqb x.address.0 0) }
-{
-    uses_address(x.kind) || x.address.0 == 0
-}
-
-fn data_right(x: Record) -> bool
-    ensures { result ≡ (uses_data x.kind || eqb x.«data» 0) }
-{
-    x.kind == 2 || x.data == 0
+    kind.uses_address() && z.addresses <= x.address.0
 }
 
 // The fields that the kind holds at 0 are 0.
-fn fields_right(x: Record) -> bool
+fn fields_right(kind: Kind, x: Record) -> bool
+    requires { code_of kind ≡ x.kind }
     ensures { result ≡ fields_right x }
 {
-    if x.origin.0 != 0 {
-        return false;
-    }
-    address_right(x) && data_right(x)
+    x.origin.0 == 0
+        && (kind.uses_address() || x.address.0 == 0)
+        && (kind.uses_data() || x.data == 0)
 }
 
-// 11 to 14, or 0.
 #[tactic(auto, unfolding(shape::specs::Step::form_refused))]
-pub(crate) fn judge_form(z: Sizes, x: Record) -> u8
-    ensures { result ≡ first_of (form_refused z x) }
+pub(crate) fn judge_form(z: Sizes, x: Record) -> Result<Kind, Refused>
+    ensures refused { number_in result ≡ first_of (form_refused z x) }
+    ensures kind { IfOk result (λ kind. code_of kind ≡ x.kind) }
 {
-    if figure::is_outside(1, 6, x.kind) {
-        return 11;
-    }
+    let kind = Kind::try_from(x.kind)?;
     if figure::is_outside(1, z.engines, x.engine.0) {
-        return 12;
+        return Err(Refused::Engine);
     }
-    let outside = address_outside(z, x);
-    let right = fields_right(x);
-    if outside {
-        return 13;
+    if address_outside(z, kind, x) {
+        return Err(Refused::Address);
     }
-    if !right {
-        return 14;
+    if !fields_right(kind, x) {
+        return Err(Refused::UnusedField);
     }
-    0
+    Ok(kind)
 }

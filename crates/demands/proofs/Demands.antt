@@ -32,8 +32,7 @@ use Rattle.demands.proofs.Lengths.{log-most, perm-long, length-account, all-coun
 use Rattle.demands.proofs.Runs.{length_run, run-bytes-long, followed, run-events}
 use Rattle.demands.specs.Demand.{run_steps, Untouched, book_after, Demand3, Shorter}
 use Rattle.demands.specs.Lines.{account_bytes, settled_bytes}
-use Rattle.demands.specs.Run.{run_sizes, run_fresh, run_memory, run_action, run_trace, run_book, run_account, own_refused, run_refused, run_number, counts_as, Ran}
-use Rattle.demands.specs.declared.Counts.{Counts}
+use Rattle.demands.specs.Run.{Answered, run_sizes, run_fresh, run_memory, run_action, run_trace, run_book, run_account, own_refused, run_refused, run_number, counts_as, Ran}
 
 -- ==== Demand 1. "A refusal gives its number; the state and all lent buffers stay as they came."
 
@@ -41,9 +40,9 @@ pub number_of : (k : ℕ) (list : List ℕ) → (counts_as k list).number ≡ k
 number_of zero list = refl
 number_of (suc k) list = refl
 
-module _ {list trace account : List ℕ} {r : Counts} {trace' account' : List ℕ} (h : Ran list trace account r trace' account') where
+module _ {list trace account : List ℕ} {r : Answered} {trace' account' : List ℕ} (h : Ran list trace account r trace' account') where
   run-number : r.number ≡ run_number list trace account
-  run-number = ap (λ (c : Counts). c.number) h.counts ∙ number_of (run_number list trace account) list
+  run-number = ap (λ (c : Answered). c.number) h.counts ∙ number_of (run_number list trace account) list
 
   pub refused-run : ¬ (r.number ≡ 0) → Untouched r trace account trace' account'
   unfolding laid unless
@@ -56,7 +55,7 @@ module _ {list trace account : List ℕ} {r : Counts} {trace' account' : List �
 
 -- ==== Demand 2. "Every other call refuses exactly when the rules give a number, the first in their order"
 
-pub run-refuses : {list trace account : List ℕ} {r : Counts} {trace' account' : List ℕ} → Ran list trace account r trace' account' → r.number ≡ first_of (run_refused list (length trace) (length account))
+pub run-refuses : {list trace account : List ℕ} {r : Answered} {trace' account' : List ℕ} → Ran list trace account r trace' account' → r.number ≡ first_of (run_refused list (length trace) (length account))
 unfolding run_number
 run-refuses h = run-number h
 
@@ -105,7 +104,7 @@ module _ (list : List ℕ) (ok : (read_of list).number ≡ 0) where
       (none-append (read_refused list) (own_refused list (length trace) (length account')) (taken_none list ok)
       (le-ltb (length trace) (record_width * (read_of list).actions) t, (le-ltb (length account') (line_width * length (run_account list)) a, tt)))
 
-module _ {list trace account' : List ℕ} {r : Counts} {trace'' account'' : List ℕ} (h : Ran list trace account' r trace'' account'') (ok : r.number ≡ 0) where
+module _ {list trace account' : List ℕ} {r : Answered} {trace'' account'' : List ℕ} (h : Ran list trace account' r trace'' account'') (ok : r.number ≡ 0) where
   number-zero : run_number list trace account' ≡ 0
   number-zero = sym (run-number h) ∙ ok
 
@@ -129,9 +128,9 @@ module _ {list trace account' : List ℕ} {r : Counts} {trace'' account'' : List
       record {
         bytes = rw (h.account_is, number-zero, counts_of_lem) (take_at (account_bytes z' (run_book list)) _ _ (length-account z' (run_book list)));
         lines = rw (h.account_is, number-zero) (listed-account z' (run_book list) _);
-        events = ap (λ (c : Counts). c.events) counts_of_lem;
+        events = ap (λ (c : Answered). c.events) counts_of_lem;
         counted = rw (counts_of_lem) (all-counted (run_trace list));
-        settled_count = ap (λ (c : Counts). c.settled) counts_of_lem;
+        settled_count = ap (λ (c : Answered). c.settled) counts_of_lem;
         settled_in_bytes = rw (h.account_is, number-zero, counts_of_lem) (settled-front z' (run_book list) _);
         once = rw (run-book list reader-took, f) g.once;
         tagged = rw (f) g.tagged;
@@ -146,7 +145,7 @@ module _ {list trace account' : List ℕ} {r : Counts} {trace'' account'' : List
       }
 
 -- an account has no more events than a list may have actions
-pub few-events : {list trace account' : List ℕ} {r : Counts} {trace'' account'' : List ℕ} → Ran list trace account' r trace'' account'' → r.events ≤ most_actions
+pub few-events : {list trace account' : List ℕ} {r : Answered} {trace'' account'' : List ℕ} → Ran list trace account' r trace'' account'' → r.events ≤ most_actions
 few-events {list} {trace} {account'} {r} h = at r.number refl
   where
     at : (k : ℕ) → r.number ≡ k → r.events ≤ most_actions

@@ -4,6 +4,7 @@ pub mod Bench
 pub mod Demands
 pub mod Listed
 pub mod Lengths
+pub mod Said
 pub mod Follows
 pub mod Equations
 pub mod Runs

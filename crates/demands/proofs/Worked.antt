@@ -11,8 +11,7 @@ use Rattle.lists.specs.Record.{record_width}
 use Rattle.shape.specs.Case.{Case, list_of, Turned}
 use Rattle.demands.proofs.Demands.{run-taken}
 use Rattle.demands.specs.Bench.{Accounted, CaseRan}
-use Rattle.demands.specs.Run.{run_account, run_number, Ran}
-use Rattle.demands.specs.declared.Counts.{Counts}
+use Rattle.demands.specs.Run.{Answered, run_account, run_number, Ran}
 
 module _ (c : Case) (t : Turned c) (a : Accounted c) (trace account : List ℕ) (trace-room : record_width * length c.turns ≤ length trace) (account-room : line_width * length c.lines ≤ length account) where
   -- buffers that have room for the table's trace and account have room for the run's
@@ -20,12 +19,12 @@ module _ (c : Case) (t : Turned c) (a : Accounted c) (trace account : List ℕ) 
   trace_fits = rw t.actions trace-room
 
   account-fits : line_width * length (run_account (list_of c)) ≤ length account
-  account-fits = omega (arith, ap (λ (r : Counts). r.events) a.counts)
+  account-fits = omega (arith, ap (λ (r : Answered). r.events) a.counts)
 
   taken : run_number (list_of c) trace account ≡ 0
   taken = run-taken (list_of c) t.reads.taken trace account trace_fits account-fits
 
-  pub case-ran : {r : Counts} {trace' account' : List ℕ} → Ran (list_of c) trace account r trace' account' → CaseRan c trace account r trace' account'
+  pub case-ran : {r : Answered} {trace' account' : List ℕ} → Ran (list_of c) trace account r trace' account' → CaseRan c trace account r trace' account'
   unfolding unless
   case-ran h =
       record {

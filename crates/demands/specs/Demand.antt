@@ -10,12 +10,11 @@ use Rattle.lists.specs.Read.{read_of, memory_of, actions_of}
 use Rattle.shape.specs.Turns.{trace_after}
 use Rattle.shape.specs.View.{step_view}
 use Rattle.demands.specs.Lines.{item_bytes, account_bytes, settled_bytes}
-use Rattle.demands.specs.Run.{run_sizes, run_fresh, run_memory, run_action, run_trace, run_book, run_account}
-use Rattle.demands.specs.declared.Counts.{Counts}
+use Rattle.demands.specs.Run.{Answered, run_sizes, run_fresh, run_memory, run_action, run_trace, run_book, run_account}
 
 -- ---- demand 1: "A refusal gives its number; the state and all lent buffers stay as they came."
 
-pub record Untouched (r : Counts) (trace account trace' account' : List ℕ) : Type 0 where
+pub record Untouched (r : Answered) (trace account trace' account' : List ℕ) : Type 0 where
   pub counts : r ≡ record { number = r.number; accepted = 0; refused = 0; events = 0; settled = 0 }
   pub trace_stays : trace' ≡ trace
   pub account_stays : account' ≡ account
@@ -35,7 +34,7 @@ pub data Listed : List Item → List ℕ → Type 0 where
 abbrev pub book_after : List ℕ → ℕ → Book
 book_after list k = book 0 (map event_view (trace_after (run_fresh list) (run_action list) k)) blank
 
-pub record Demand3 (list account' : List ℕ) (r : Counts) : Type 0 where
+pub record Demand3 (list account' : List ℕ) (r : Answered) : Type 0 where
   -- what stands at the front of the account buffer is the account of what the trace says happened
   pub bytes : take (line_width * r.events) account' ≡ account_bytes (run_sizes list) (run_book list)
   -- one line for each item, in their order

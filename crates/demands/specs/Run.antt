@@ -1,11 +1,13 @@
 -- The run: what it answers and what it leaves in the two lent buffers. Assumes nothing.
-use Rattle.std.specs.Prelude.{Bool, List, [], ◌∷◌, ◌++◌, map, ◌≡◌, ℕ, zero, suc, ◌*◌, eqb, ltb, length, get_or}
+use Rattle.std.specs.Prelude.{Bool, Result, Ok, Err, List, [], ◌∷◌, ◌++◌, map, ◌≡◌, ℕ, zero, suc, ◌*◌, eqb, ltb, length, get_or}
 use Rattle.figure.specs.Account.{Item, Book, blank, book, account, settled}
 use Rattle.figure.specs.Event.{event_view}
 use Rattle.figure.specs.Demand.{Serial}
 use Rattle.figure.specs.Record.{no_record}
 use Rattle.figure.specs.Refusals.{Refusal, ◌when◌, pick, first_of, unless}
+use Rattle.figure.specs.Refused.{number_of}
 use Rattle.figure.specs.declared.Record.{Record}
+use Rattle.figure.specs.declared.refused.Refused.{Refused}
 use Rattle.figure.specs.declared.Sizes.{Sizes}
 use Rattle.lists.specs.Bytes.{rows, laid}
 use Rattle.lists.specs.Read.{read_refused, read_of, memory_of, actions_of}
@@ -57,8 +59,24 @@ unfoldable pub refused_in : List Record → ℕ
 refused_in [] = 0
 refused_in (r ∷ rs) = pick (is_refused r) (suc (refused_in rs)) (refused_in rs)
 
+-- what a run answers: the number of its refusal, 0 where it refuses nothing, and the four counts
+pub record Answered : Type 0 where
+  pub number : ℕ
+  pub accepted : ℕ
+  pub refused : ℕ
+  pub events : ℕ
+  pub settled : ℕ
+
 -- "A refused run has all counts 0"
-abbrev pub counts_as : ℕ → List ℕ → Counts
+abbrev pub answered_none : ℕ → Answered
+answered_none n = record { number = n; accepted = 0; refused = 0; events = 0; settled = 0 }
+
+abbrev pub answered_by : Result Counts Refused → Answered
+answered_by (Ok c) = record { number = 0; accepted = c.accepted; refused = c.refused; events = c.events; settled = c.settled }
+answered_by (Err e) = answered_none (number_of e)
+
+-- of the run of a list, by its number
+abbrev pub counts_as : ℕ → List ℕ → Answered
 counts_as zero list =
     record {
       number = 0;
@@ -67,7 +85,7 @@ counts_as zero list =
       events = length (run_account list);
       settled = length (settled (run_sizes list) (run_book list));
     }
-counts_as (suc n) list = record { number = suc n; accepted = 0; refused = 0; events = 0; settled = 0 }
+counts_as (suc n) list = answered_none (suc n)
 
 -- ---- the refusals
 
@@ -87,7 +105,7 @@ run_number list trace account = first_of (run_refused list (length trace) (lengt
 
 -- ---- the answer; "both buffers are untouched" on a refusal; "Bytes past what is written stay."
 
-pub record Ran (list trace account : List ℕ) (r : Counts) (trace' account' : List ℕ) : Type 0 where
+pub record Ran (list trace account : List ℕ) (r : Answered) (trace' account' : List ℕ) : Type 0 where
   pub counts : r ≡ counts_as (run_number list trace account) list
   pub trace_is : trace' ≡ laid (unless (run_number list trace account) (rows record_bytes (run_trace list)) []) trace
   pub account_is : account' ≡ laid (unless (run_number list trace account) (account_bytes (run_sizes list) (run_book list)) []) account

@@ -1,14 +1,16 @@
 -- The ledger: what it says of a run, and the struct that holds it. Assumes nothing.
-use Prim.Native.Nat.{ℕ, zero, suc, pred, ◌+◌, ◌-◌, ◌≤◌, ◌<◌, zero-le}
-use native.Mathlib.Nat.{sub-suc, sub-zero}
+use Prim.Native.Nat.{ℕ, zero, suc, pred, ◌+◌, ◌≤◌, ◌<◌, zero-le}
 use native.Mathlib.Omega.{arith}
 use mathlib.Core.Path.{◌≡◌, refl, sym, ap, ◌∙◌}
-use mathlib.Core.Bool.{Bool, true, false, not, ◌||◌, true≢false}
+use mathlib.Core.Bool.{Bool, true, false, not, true≢false}
 use mathlib.Core.List.{List, [], ◌∷◌, map}
 use lib.Dec.{ltb, eqb-suc-zero}
 use lib.ListN.{length, get_or, set, replicate, length-set}
 use lib.Seq.{get_or-set_same, get_or-set_other}
 use borrow.Author.Tests.{ltb-false, lt-ltb, le-ltb, not-true}
+use Rattle.std.proofs.lemmas.Bool.{or_parts}
+-- an engine's place, as the code computes it
+pub use native.Mathlib.Numerals.{sub-one as place_is}
 use Rattle.figure.specs.Account as account
 use Rattle.figure.specs.Account.{Event, refused, read, wrote, published, refreshed, updated, dropped, blank_ledger, enter, ledger, Book, note, book}
 use Rattle.figure.specs.Event.{event_view}
@@ -25,17 +27,12 @@ use Rattle.figure.proofs.Told.{Told, reads, writes, publishes, takes, other, tol
 -- ---- the book's ledger is the ledger of what happened
 
 pub note-ledger : (t : ℕ) (e : Event) (b : Book) → (note t e b).ledger ≡ enter e b.ledger
-note-ledger t refused b = refl
-note-ledger t (read i a d) b = refl
-note-ledger t (wrote i a d) b = refl
 note-ledger t (published i a d) b = at (b.pending i)
   where
     at : (p : List account.Item) → (account.open_slot b i p).ledger ≡ account.publish_one b.ledger i
     at [] = refl
     at (x ∷ p) = refl
-note-ledger t (refreshed i a d) b = refl
-note-ledger t (updated i o a d) b = refl
-note-ledger t (dropped i a) b = refl
+note-ledger t e b = refl
 
 pub book-ledger : (t : ℕ) (es : List Event) (b : Book) → (book t es b).ledger ≡ ledger es b.ledger
 book-ledger t [] b = refl
@@ -44,37 +41,13 @@ book-ledger t (e ∷ es) b = book-ledger (suc t) es (note t e b) ∙ ap (ledger 
 -- ---- an engine's number
 
 inside : (lo hi x : ℕ) → not (outside lo hi x) ≡ true → (lo ≤ x) × (x ≤ hi)
-inside lo hi x e = at (ltb x lo) refl (not-true _ e)
-  where
-    at : (t : Bool) → ltb x lo ≡ t → (t || ltb hi x) ≡ false → (lo ≤ x) × (x ≤ hi)
-    at true p q = absurd (true≢false q)
-    at false p q = (ltb-false x lo p, ltb-false hi x q)
+inside lo hi x e = let p = or_parts (ltb x lo) (ltb hi x) (not-true _ e) in (ltb-false x lo p.0, ltb-false hi x p.1)
 
 pub engine-inside : (i : Engine) → is_engine i ≡ true → (1 ≤ i.0) × (i.0 ≤ most_engines)
 engine-inside i = inside 1 most_engines i.0
 
 pub engine-is : (i : Engine) → 1 ≤ i.0 → i.0 ≤ most_engines → is_engine i ≡ true
 engine-is i lo hi = rw (le-ltb i.0 1 lo, le-ltb most_engines i.0 hi)
-
--- an engine's place, as the code computes it
-pub place_is : (i : ℕ) → i - 1 ≡ pred i
-place_is i = sub-suc i 0 ∙ ap pred (sub-zero i)
-
--- ---- the struct after an event, test by test
-
-module _ (l : Ledger) (i : Engine) where
-  pub published-engine : (n : WriteNumber) → is_engine i ≡ true → n ≡ wn (one_more l.published.0) → record { published = n; taken = l.taken; own = set l.own (i.0 - 1) n } ≡ published_by l i
-  published-engine n e q = rw (place_is, e, q)
-
-  pub published-none : (n : WriteNumber) → is_engine i ≡ false → n ≡ wn (one_more l.published.0) → record { published = n; taken = l.taken; own = l.own } ≡ published_by l i
-  published-none n e q = rw (e, q)
-
-  pub taken-engine : (n : WriteNumber) → is_engine i ≡ true → n ≡ wn (one_more (get_or l.taken (i.0 - 1) (wn 0)).0)
-      → record { published = l.published; taken = set l.taken (i.0 - 1) n; own = l.own } ≡ taken_by l i
-  taken-engine n e q = rw (q, place_is, e)
-
-  pub taken_none : is_engine i ≡ false → l ≡ taken_by l i
-  taken_none e = rw (e)
 
 -- ---- no number is above the number of events
 

@@ -2,22 +2,16 @@
 use Prim.Native.Nat.{ℕ, zero, suc, ◌≤◌}
 use native.Mathlib.Omega.{arith}
 use mathlib.Core.Path.{◌≡◌, refl, sym, ap}
-use mathlib.Core.Bool.{Bool, true, false, ◌&&◌, false≢true}
+use mathlib.Core.Bool.{Bool, true, false}
 use mathlib.Core.List.{List, [], ◌∷◌, ◌++◌, append_assoc}
 use lib.Dec.{eqb}
 use lib.ListN.{length, get_or}
 use borrow.Author.Tests.{eqb-true, eqb-false}
+-- both sides of an "and"
+pub use Rattle.std.specs.Cmp.{first_so as and_left, second_so as and_right}
 use Rattle.figure.specs.Figure.{upd}
 use Rattle.figure.specs.Account.{Item, reading, writing, join_slot, flat}
 use Rattle.figure.specs.Demand.{Serial, place, Rises}
-
-pub and_left : (a b : Bool) → a && b ≡ true → a ≡ true
-and_left true b e = refl
-and_left false b e = e
-
-pub and_right : (a b : Bool) → a && b ≡ true → b ≡ true
-and_right true b e = e
-and_right false b e = absurd (false≢true e)
 
 -- ---- a fact of each number, after a change at one
 

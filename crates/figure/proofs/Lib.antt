@@ -1,4 +1,5 @@
 pub mod First
+pub mod Numbers
 pub mod Laws
 pub mod Machines
 pub mod Simulates

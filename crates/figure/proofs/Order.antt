@@ -3,7 +3,7 @@ use Prim.Native.Nat.{ℕ, zero, suc, ◌≤◌}
 use native.Mathlib.Omega.{arith}
 use mathlib.Core.Path.{◌≡◌, refl, sym, ap, ◌∙◌}
 use mathlib.Core.Bool.{Bool, true, false, not, ◌&&◌, false≢true, and-false}
-use mathlib.Core.List.{List, [], ◌∷◌, ◌++◌, append_assoc, append-nil, cons≢nil}
+use mathlib.Core.List.{List, [], ◌∷◌, ◌++◌, append_assoc, append-nil, append-eq-nil_iff}
 use lib.Dec.{eqb, leb}
 use borrow.Author.Tests.{eqb-true, eqb-false, leb-true, leb-false, not-true}
 use Rattle.figure.specs.declared.Sizes.{Sizes}
@@ -237,22 +237,17 @@ module _ (z : Sizes) (j : ℕ) (no : engine? z j ≡ false) where
       at : (q : List Out) → own j (logged t (head_out i q)) ≡ []
       at [] = refl
       at (wr a d ∷ q) = refl
-  idle-next t s (MR i a) e = refl
   idle-next t s (CU i) e = at (s.engine i).ins
     where
       at : (q : List In) → own j (logged t (head_in i q)) ≡ []
       at [] = refl
       at (up o a d ∷ q) = refl
-  idle-next t s (CI i a) e = refl
+  idle-next t s x e = refl
 
   pub log-idle : (t : ℕ) (s : State) (xs : List Step) → own j (log t (trace z s xs)) ≡ []
   log-idle t s xs = run-keeps z (λ s b l. own j l ≡ []) (λ t s b l x e h. rw (own-append, h) (idle-next t s x e)) t s blank [] xs refl
 
 -- ---- all together
-
-end-nil : (xs ys : List Item) → xs ++ ys ≡ [] → ys ≡ []
-end-nil [] ys e = e
-end-nil (x ∷ xs) ys e = absurd (cons≢nil e)
 
 pub own-order : (z : Sizes) (mem : ℕ → ℕ) (xs : List Step) (i : ℕ) → own i (account z (book_of z mem xs)) ≡ own i (log_of z mem xs)
 own-order z mem xs i =
@@ -260,5 +255,5 @@ own-order z mem xs i =
     let h = run-keeps z (λ s b l. Inv mem s b × Order s b l) (λ t s b l x e h. (inv-next mem s b h.0 z t x e, order-next s b l h.1 z t x h.0.linked e))
     0 (fresh mem) blank [] xs (inv-fresh mem, order-fresh mem) in
     own-append i (flat b.slots) (unpublished z.engines b.pending)
-    ∙ ap (λ (x : List Item). own i (flat b.slots) ++ x) (own-all b.pending (λ j. ((after z (fresh mem) xs).engine j).outs) h.0.linked z.engines i (λ no. end-nil (own i (flat b.slots)) _ (h.1.same i ∙ log-idle z i no 0 (fresh mem) xs)))
+    ∙ ap (λ (x : List Item). own i (flat b.slots) ++ x) (own-all b.pending (λ j. ((after z (fresh mem) xs).engine j).outs) h.0.linked z.engines i (λ no. (append-eq-nil_iff.0 (h.1.same i ∙ log-idle z i no 0 (fresh mem) xs)).1))
     ∙ h.1.same i

@@ -4,7 +4,7 @@ use native.Mathlib.Omega.{arith}
 use mathlib.Core.Path.{◌≡◌, refl}
 use mathlib.Core.List.{List, [], ◌∷◌}
 use lib.ListN.{length, get_or}
-use Rattle.figure.specs.Account.{Event, refused, read, wrote, published, refreshed, updated, dropped, Item, reading, writing, log, Book, blank, open_slot, note, book}
+use Rattle.figure.specs.Account.{Event, read, wrote, published, updated, Item, reading, writing, log, Book, blank, open_slot, note, book}
 use Rattle.figure.specs.Demand.{place, Rises}
 use Rattle.figure.proofs.Laws.{upd-one, rises-lower, rises-higher, rises-between, rises-snoc, SlotsRise, slots-higher, slots-put, slots-open}
 
@@ -15,13 +15,9 @@ rises-log t hi [] q = omega arith
 rises-log t hi (e ∷ es) q = let h = rises-log (suc t) hi es (omega arith) in at e h (rises-lower t (suc t) hi (log (suc t) es) (omega arith) h)
   where
     at : (e : Event) → Rises (suc t) hi (log (suc t) es) → Rises t hi (log (suc t) es) → Rises t hi (log t (e ∷ es))
-    at refused h k = k
     at (read i a d) h k = (omega arith, h)
     at (wrote i a d) h k = (omega arith, h)
-    at (published i a d) h k = k
-    at (refreshed i a d) h k = k
-    at (updated i o a d) h k = k
-    at (dropped i a) h k = k
+    at e h k = k
 
 -- ---- the slots
 
@@ -42,7 +38,6 @@ timed-open t b i (x ∷ q) r h =
     }
 
 timed-note : (t : ℕ) (e : Event) (b : Book) → Timed t b → Timed (suc t) (note t e b)
-timed-note t refused b h = timed-later t b h
 timed-note t (read i a d) b h =
     record { in_slots = slots-put t (b.ledger.taken i) (reading t i a d) b.slots refl h.in_slots; waiting = (timed-later t b h).waiting }
 timed-note t (wrote i a d) b h =
@@ -52,9 +47,8 @@ timed-note t (wrote i a d) b h =
       waiting = upd-one (λ j (p : List Item). Rises 0 (suc t) p) b.pending i _ (rises-snoc 0 t (b.pending i) (writing t i a d) refl (h.waiting i)) (λ j _. k.waiting j);
     }
 timed-note t (published i a d) b h = timed-later t (open_slot b i (b.pending i)) (timed-open t b i (b.pending i) (h.waiting i) h)
-timed-note t (refreshed i a d) b h = timed-later t b h
 timed-note t (updated i o a d) b h = let k = timed-later t b h in record { in_slots = k.in_slots; waiting = k.waiting }
-timed-note t (dropped i a) b h = timed-later t b h
+timed-note t e b h = timed-later t b h
 
 timed-book : (t hi : ℕ) (es : List Event) (b : Book) → t + length es ≡ hi → Timed t b → Timed hi (book t es b)
 timed-book t hi [] b q h = let e : t ≡ hi = omega arith in rw e at h

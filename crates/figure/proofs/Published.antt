@@ -6,9 +6,9 @@ use mathlib.Core.Path.{◌≡◌, refl, ◌∙◌}
 use mathlib.Core.Option.{Option}
 use mathlib.Core.List.{List, [], ◌∷◌}
 use lib.ListN.{length, length-append}
-use Rattle.figure.specs.Account.{Event, refused, read, wrote, published, refreshed, updated, dropped, head_out, head_in, event, Item, Ledger, blank_ledger, enter, ledger, Book, blank, note}
+use Rattle.figure.specs.Account.{Event, published, updated, head_out, head_in, event, Item, Ledger, blank_ledger, enter, ledger, Book, blank, note}
 use Rattle.figure.specs.Demand.{trace_of, book_of}
-use Rattle.figure.specs.Figure.{Out, In, up, State, Step, R, W, MW, MR, CU, CI, fresh, after}
+use Rattle.figure.specs.Figure.{Out, In, up, State, Step, R, MW, CU, fresh, after}
 use Rattle.figure.specs.declared.Sizes.{Sizes}
 use Rattle.figure.proofs.Entries.{book-ledger}
 use Rattle.figure.proofs.Laws.{upd-one, length-put, leave}
@@ -27,14 +27,9 @@ own-most [] l h = h
 own-most (e ∷ es) l h = own-most es (enter e l) (at e)
   where
     at : (e : Event) (i : ℕ) → (enter e l).own i ≤ (enter e l).published
-    at refused = h
-    at (read i a d) = h
-    at (wrote i a d) = h
     at (published i a d) = upd-one (λ j n. n ≤ suc l.published) l.own i (suc l.published) (le_refl _) (λ j _. omega (arith, h j))
-    at (refreshed i a d) = h
     at (updated i zero a d) = h
-    at (updated i (suc o) a d) = h
-    at (dropped i a) = h
+    at e = h
 
 -- ---- a slot for each published write, and slot 0
 
@@ -54,11 +49,9 @@ module _ (mem : ℕ → ℕ) (z : Sizes) where
 
     slotted-next : (t : ℕ) (x : Step) → Slotted (note t (event s x) b)
     slotted-next t (R i a) = length-put _ (b.ledger.taken i) b.slots ∙ k
-    slotted-next t (W i a d) = k
     slotted-next t (MW i) = slotted-out t refl (h.linked i)
-    slotted-next t (MR i a) = k
     slotted-next t (CU i) = slotted-in t i (s.engine i).ins
-    slotted-next t (CI i a) = k
+    slotted-next t x = k
 
   reached : (xs : List Step) → let b = book_of z mem xs in Inv mem (after z (fresh mem) xs) b × Slotted b
   reached xs =

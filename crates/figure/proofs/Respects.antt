@@ -38,13 +38,17 @@ room-agrees (suc k) n depth f g h e =
     cc (e (suc k) q, room-agrees k n depth f g (omega arith) e)
 
 module _ (z : Sizes) (s r : State) (h : Agrees z s r) where
+  -- the engine of a step that names an engine and an address
+  engine-agrees : (i a : ℕ) → engine? z i && address? z a ≡ true → Alike z (s.engine i) (r.engine i)
+  engine-agrees i a e = h.engine i (and_left (engine? z i) _ e)
+
   pub accepted-agrees : (x : Step) → accepted z s x ≡ accepted z r x
   accepted-agrees (R i a) = and-cong (engine? z i && address? z a) λ y.
-      let k = h.engine i (and_left (engine? z i) _ y) in cc (k.cache a (and_right (engine? z i) _ y), k.outs, k.ins)
-  accepted-agrees (W i a d) = and-cong (engine? z i && address? z a) λ y. cc (h.engine i (and_left (engine? z i) _ y)).outs
+      let k = engine-agrees i a y in cc (k.cache a (and_right (engine? z i) _ y), k.outs, k.ins)
+  accepted-agrees (W i a d) = and-cong (engine? z i && address? z a) λ y. cc ((engine-agrees i a y).outs)
   accepted-agrees (MW i) = and-cong (engine? z i) λ y.
       cc ((h.engine i y).outs, room-agrees z.engines z.engines z.depth s.engine r.engine (le_refl _) (λ j k. (h.engine j k).ins))
-  accepted-agrees (MR i a) = and-cong (engine? z i && address? z a) λ y. cc (h.engine i (and_left (engine? z i) _ y)).ins
+  accepted-agrees (MR i a) = and-cong (engine? z i && address? z a) λ y. cc ((engine-agrees i a y).ins)
   accepted-agrees (CU i) = and-cong (engine? z i) λ y. cc (h.engine i y).ins
   accepted-agrees (CI i a) = refl
 
@@ -73,27 +77,26 @@ module _ (z : Sizes) (s r : State) (h : Agrees z s r) where
 
   next-named : (x : Step) → named z x ≡ true → Agrees z (next s x) (next r x)
   next-named (R i a) e = h
-  next-named (W i a d) e = let k = h.engine i (and_left (engine? z i) _ e) in at_one i _ _
+  next-named (W i a d) e = let k = engine-agrees i a e in at_one i _ _
       (record { cache = k.cache; outs = ap (λ (l : List Out). l ++ (wr a d ∷ [])) k.outs; ins = k.ins })
   next-named (MW i) e =
       subst (λ (q : List Out). Agrees z (publish s i (s.engine i).outs) (publish r i q)) (h.engine i e).outs (publish-agrees i (s.engine i).outs e)
-  next-named (MR i a) e = let k = h.engine i (and_left (engine? z i) _ e) in at_one i _ _
+  next-named (MR i a) e = let k = engine-agrees i a e in at_one i _ _
       (record { cache = k.cache; outs = k.outs; ins = cc (k.ins, h.memory a (and_right (engine? z i) _ e)) })
   next-named (CU i) e =
       subst (λ (q : List In). Agrees z (update s i (s.engine i).ins) (update r i q)) (h.engine i e).ins (update_agrees i (s.engine i).ins e)
-  next-named (CI i a) e = let k = h.engine i (and_left (engine? z i) _ e) in at_one i _ _
+  next-named (CI i a) e = let k = engine-agrees i a e in at_one i _ _
       (record { cache = cache-agrees a none _ _ k.cache; outs = k.outs; ins = k.ins })
 
   pub next-agrees : (x : Step) → accepted z s x ≡ true → Agrees z (next s x) (next r x)
   next-agrees x e = next-named x (and_left (named z x) _ e)
 
   event-named : (x : Step) → named z x ≡ true → event s x ≡ event r x
-  event-named (R i a) e = ap (λ (o : Option ℕ). read i a (held o)) ((h.engine i (and_left (engine? z i) _ e)).cache a (and_right (engine? z i) _ e))
-  event-named (W i a d) e = refl
+  event-named (R i a) e = ap (λ (o : Option ℕ). read i a (held o)) ((engine-agrees i a e).cache a (and_right (engine? z i) _ e))
   event-named (MW i) e = ap (head_out i) (h.engine i e).outs
   event-named (MR i a) e = ap (refreshed i a) (h.memory a (and_right (engine? z i) _ e))
   event-named (CU i) e = ap (head_in i) (h.engine i e).ins
-  event-named (CI i a) e = refl
+  event-named x e = refl
 
   pub event-agrees : (x : Step) → accepted z s x ≡ true → event s x ≡ event r x
   event-agrees x e = event-named x (and_left (named z x) _ e)

@@ -9,7 +9,7 @@ use lib.Dec.{leb}
 use lib.ListN.{take}
 use borrow.Author.Tests.{leb-true, leb-false}
 use Rattle.figure.specs.declared.Sizes.{Sizes}
-use Rattle.figure.specs.Figure.{Out, wr, In, up, State, Step, R, W, MW, MR, CU, CI, engine?, named, accepted}
+use Rattle.figure.specs.Figure.{Out, wr, In, up, State, Step, R, MW, CU, engine?, named, accepted}
 use Rattle.figure.specs.Account.{read, updated, head_out, head_in, event, trace, Item, reading, Book, join_slot, open_slot, note, book, floor, lowest, settled_slots}
 use Rattle.figure.specs.Demand.{Opens, none, last, more}
 use Rattle.figure.proofs.Begins.{begins-more-of, opens-refl, opens-trans}
@@ -77,19 +77,17 @@ one-taken z t b i (suc o) a d =
 
 step-settled : (z : Sizes) (t : ℕ) (s : State) (b : Book) (x : Step) → accepted z s x ≡ true → Opens (settled_slots z b) (settled_slots z (note t (event s x) b))
 step-settled z t s b (R i a) e = one-read z t b i a _ (and_left (engine? z i) _ (and_left (named z (R i a)) _ e))
-step-settled z t s b (W i a d) e = opens-refl _
 step-settled z t s b (MW i) e = at (s.engine i).outs
   where
     at : (q : List Out) → Opens (settled_slots z b) (settled_slots z (note t (head_out i q) b))
     at [] = opens-refl _
     at (wr a d ∷ q) = opened z b i (b.pending i)
-step-settled z t s b (MR i a) e = opens-refl _
 step-settled z t s b (CU i) e = at (s.engine i).ins
   where
     at : (q : List In) → Opens (settled_slots z b) (settled_slots z (note t (head_in i q) b))
     at [] = opens-refl _
     at (up o a d ∷ q) = one-taken z t b i o a d
-step-settled z t s b (CI i a) e = opens-refl _
+step-settled z t s b x e = opens-refl _
 
 -- at every later moment what was settled begins what is settled, and the slots
 pub slots_stay : (z : Sizes) (t : ℕ) (s : State) (b : Book) (xs : List Step) → Opens (settled_slots z b) (settled_slots z (book t (trace z s xs) b))

@@ -8,8 +8,8 @@ use mathlib.Core.List.{List, [], ◌∷◌}
 use borrow.Author.Tests.{eqb-false}
 use Rattle.figure.specs.declared.Sizes.{Sizes}
 use Rattle.figure.specs.Refusals.{pick}
-use Rattle.figure.specs.Figure.{upd, Out, wr, up, State, Step, R, W, MW, MR, CU, CI, fresh, empty, present, named, accepted, join_in, next}
-use Rattle.figure.specs.Account.{Event, refused, read, wrote, published, refreshed, updated, dropped, event, Item, reading, writing, log, Book, blank, note, book, account}
+use Rattle.figure.specs.Figure.{upd, Out, wr, up, State, Step, R, W, MW, MR, CU, fresh, empty, present, named, accepted, join_in, next}
+use Rattle.figure.specs.Account.{Event, refused, updated, event, Item, reading, writing, log, Book, blank, note, book, account}
 use Rattle.figure.specs.Demand.{Serial, own, log_of, book_of}
 use Rattle.figure.proofs.Machines.{runs, tape}
 use Rattle.figure.proofs.Run.{trace-tape}
@@ -53,27 +53,15 @@ account-by z mem xs = rw (trace-tape z (fresh mem) xs) (ap (account z) (book-by 
 module _ {A : Type 0} where
   abbrev at_r : (ℕ → ℕ → A) → (Step → A) → Step → A
   at_r f g (R i a) = f i a
-  at_r f g (W i a d) = g (W i a d)
-  at_r f g (MW i) = g (MW i)
-  at_r f g (MR i a) = g (MR i a)
-  at_r f g (CU i) = g (CU i)
-  at_r f g (CI i a) = g (CI i a)
+  at_r f g x = g x
 
   abbrev at_mw : (ℕ → A) → (Step → A) → Step → A
-  at_mw f g (R i a) = g (R i a)
-  at_mw f g (W i a d) = g (W i a d)
   at_mw f g (MW i) = f i
-  at_mw f g (MR i a) = g (MR i a)
-  at_mw f g (CU i) = g (CU i)
-  at_mw f g (CI i a) = g (CI i a)
+  at_mw f g x = g x
 
   abbrev at_mr : (ℕ → ℕ → A) → (Step → A) → Step → A
-  at_mr f g (R i a) = g (R i a)
-  at_mr f g (W i a d) = g (W i a d)
-  at_mr f g (MW i) = g (MW i)
   at_mr f g (MR i a) = f i a
-  at_mr f g (CU i) = g (CU i)
-  at_mr f g (CI i a) = g (CI i a)
+  at_mr f g x = g x
 
 -- ---- "A refresh put in the cache at once. In B1 cache 2 would hold 7": engine 2 reads 7 before it has taken the write of it
 
@@ -157,13 +145,8 @@ issue-order-breaks h = eqb-false 7 0 refl h.0
 -- ---- "Counting refreshes as taken writes": in B4 the read of 3 then falls behind the write of 4, and the read of 4 into no slot
 
 abbrev pub counted : ℕ → Event → Book → Book
-counted t refused b = note t refused b
-counted t (read i a d) b = note t (read i a d) b
-counted t (wrote i a d) b = note t (wrote i a d) b
-counted t (published i a d) b = note t (published i a d) b
-counted t (refreshed i a d) b = note t (refreshed i a d) b
 counted t (updated i o a d) b = note t (updated i (suc o) a d) b
-counted t (dropped i a) b = note t (dropped i a) b
+counted t e b = note t e b
 
 abbrev pub counting : Rules
 counting = record { accepts = accepted; moves = next; notes = counted }

@@ -3,13 +3,14 @@ ghost use Rattle.std.specs.Prelude.{◌≡◌};
 ghost use Rattle.figure.specs.Ledger.{wn, one_more, none_entered, is_engine, is_taking, published_by, taken_by};
 ghost use Rattle.figure.specs.Ledger as spec;
 
-use crate::{ENGINES, Engine, MOST_ENGINES, Record, WriteNumber};
+use crate::{ENGINES, Engine, Kind, Record, WriteNumber};
 
 // The highest number that a write can have.
 const MOST_WRITES: u32 = 4294967294;
 
 // How many writes are published, how many each engine has taken, and the number of its last own published write, 0 where it has none.
-#[derive(Clone, Copy)]
+// Kept: 0 and no Option, and an array for each number of an engine, since what may not change needs them: `Mirrors` of specs/Ledger ties each array to a function of the account, where no write is 0. No code reads `own`: the theorems about demand 3 do.
+#[derive(Clone, Copy, Debug, Default, PartialEq, Eq)]
 pub struct Ledger {
     pub published: WriteNumber,
     pub taken: [WriteNumber; ENGINES],
@@ -19,25 +20,21 @@ pub struct Ledger {
 pub fn none_entered() -> Ledger
     ensures { result ≡ none_entered }
 {
-    Ledger {
-        published: WriteNumber(0),
-        taken: [WriteNumber(0); ENGINES],
-        own: [WriteNumber(0); ENGINES],
-    }
+    Ledger::default()
 }
 
 // An engine of some store.
 pub fn is_engine(i: Engine) -> bool
     ensures { result ≡ is_engine i }
 {
-    !crate::is_outside(1, MOST_ENGINES, i.0)
+    i.place().is_some()
 }
 
 // Entries from memory are not counted.
 fn is_taking(e: Record) -> bool
     ensures { result ≡ is_taking e }
 {
-    e.kind == 5 && e.origin.0 != 0
+    e.is(Kind::Update) && e.origin.0 != 0
 }
 
 fn one_more(w: WriteNumber) -> WriteNumber
@@ -54,43 +51,32 @@ fn published_by(l: Ledger, i: Engine) -> Ledger
     ensures { result ≡ published_by l i }
 {
     let published = one_more(l.published);
-    let taken = l.taken;
     let mut own = l.own;
-    if is_engine(i) {
-        let k = (i.0 - 1) as usize;
+    if let Some(k) = i.place() {
         own[k] = published;
     }
     Ledger {
         published,
-        taken,
         own,
+        ..l
     }
 }
 
 fn taken_by(l: Ledger, i: Engine) -> Ledger
     ensures { result ≡ taken_by l i }
 {
-    if !is_engine(i) {
-        return l;
-    }
-    let published = l.published;
-    let own = l.own;
     let mut taken = l.taken;
-    let k = (i.0 - 1) as usize;
-    let t = taken[k];
-    taken[k] = one_more(t);
-    Ledger {
-        published,
-        taken,
-        own,
+    if let Some(k) = i.place() {
+        taken[k] = one_more(taken[k]);
     }
+    Ledger { taken, ..l }
 }
 
 // The ledger after the event of a trace record.
 pub fn entered(l: Ledger, e: Record) -> Ledger
     ensures { result ≡ spec.entered l e }
 {
-    if e.kind == 3 {
+    if e.is(Kind::Publish) {
         return published_by(l, e.engine);
     }
     if is_taking(e) {

@@ -1,11 +1,25 @@
 -- Of any records: how many there are, no number of the ledger is above that, and how many are of a kind. Assumes nothing.
-use Prim.Native.Nat.{ℕ, zero, suc, pred, ◌≤◌, zero-le}
+use Prim.Native.Nat.{ℕ, zero, suc, pred, min, ◌+◌, ◌<◌, ◌≤◌, zero-le}
 use native.Mathlib.Omega.{arith}
-use mathlib.Core.Path.{◌≡◌, refl, ap}
+use mathlib.Core.Path.{◌≡◌, refl, sym, ap}
 use mathlib.Core.Bool.{Bool, true, false, ◌&&◌, and-true, and-false}
-use mathlib.Core.List.{List}
+use mathlib.Core.List.{List, [], ◌∷◌}
+use native.Mathlib.Numerals.{add-one}
 use lib.Dec.{eqb}
-use lib.ListN.{length, set}
+use lib.ListN.{length, get_or, set, take}
+use Rattle.std.specs.Prelude.{Option, Some}
+use Rattle.std.specs.List.{fold, reduce}
+use Rattle.std.specs.Cmp.{nat_cmp_is}
+use Rattle.std.specs.Iterator.{PicksByCmp}
+use Rattle.std.specs.Ordering.{nat_cmp, min_by_ordering}
+use Rattle.std.specs.declared.iter.Copied.{Copied}
+use Rattle.std.proofs.iter.Yields.{copies, fronts}
+use Rattle.std.proofs.lemmas.Iterator.{YieldsList-from_slice}
+use Rattle.std.proofs.lemmas.Iterator.Consumers.{YieldsList-from_copied, reduce_from_yields_List}
+use Rattle.std.proofs.Common.{Iter, ◌⊎◌, inl, inr, Less, Equal, Greater}
+use Rattle.std.proofs.lemmas.Bool.{cases_order}
+use Rattle.std.proofs.Math.Nat.{min-eq_left, min-eq_right}
+use Rattle.std.proofs.lemmas.List.Sums.{fold_more}
 use Rattle.figure.specs.declared.Engine.{Engine}
 use Rattle.figure.specs.declared.Record.{Record}
 use Rattle.figure.specs.declared.WriteNumber.{WriteNumber}
@@ -16,7 +30,7 @@ use Rattle.figure.specs.Refusals.{pick}
 use Rattle.figure.proofs.Entries.{small-none, small-more, filed-none, filed-more}
 use Rattle.figure.proofs.Laws.{upd-one}
 use Rattle.figure.proofs.Machines.{built-long}
-use Rattle.history.specs.Pieces.{number_at, Few, ledger_at, many_at, key_at, keys_below, records_below}
+use Rattle.history.specs.Pieces.{number_at, lesser, Few, ledger_at, many_at, key_at, keys_below, records_below}
 
 -- ---- the lowest
 
@@ -30,6 +44,31 @@ lowest-alike zero f g h = refl
 lowest-alike (suc zero) f g h = h 1 (omega arith) (omega arith)
 lowest-alike (suc (suc n)) f g h =
     rw (lowest-alike (suc n) f g (λ i lo hi. h i lo (omega arith)), h (suc (suc n)) (omega arith) (omega arith))
+
+-- the library's least of two numbers
+lesser-is : (p q : WriteNumber) → lesser p q ≡ wn (min p.0 q.0)
+lesser-is p q = at (cases_order p.0 q.0)
+  where
+    at : (p.0 ≡ q.0) ⊎ ((p.0 < q.0) ⊎ (q.0 < p.0)) → lesser p q ≡ wn (min p.0 q.0)
+    at (inl e) = rw (← (nat_cmp_is p.0 q.0 Equal e)) (ap wn (sym (min-eq_left (omega (arith, e)))))
+    at (inr (inl l)) = rw (← (nat_cmp_is p.0 q.0 Less l)) (ap wn (sym (min-eq_left (omega (arith, l)))))
+    at (inr (inr l)) = rw (← (nat_cmp_is p.0 q.0 Greater l)) (ap wn (sym (min-eq_right (omega (arith, l)))))
+
+-- of a whole list
+pub least-is : (s : Copied (Iter WriteNumber)) {ws : List WriteNumber} {r : Option WriteNumber} → PicksByCmp (copies fronts) min_by_ordering (λ (p : WriteNumber) (q : WriteNumber). nat_cmp p.0 q.0) s r → s.iter.rest.now ≡ ws → r ≡ reduce lesser ws
+least-is s {ws} {r} ran e = reduce_from_yields_List lesser s r ran (YieldsList-from_copied (YieldsList-from_slice ws e))
+
+-- and of the first n of one
+lowest-fold : (w : WriteNumber) (ws : List WriteNumber) (m : ℕ) → m ≤ length ws → fold lesser w (take m ws) ≡ wn (lowest (suc m) (number_at (w ∷ ws)))
+lowest-fold w ws zero h = refl
+lowest-fold w ws (suc m) h =
+    let e : fold lesser w (take (m + 1) ws) ≡ lesser (fold lesser w (take m ws)) (get_or ws m (wn 0)) = fold_more lesser w ws m (wn 0) (omega arith) in
+    rw (← add-one m, e, lowest-fold w ws m (omega arith)) (lesser-is _ _)
+
+pub lowest-reduced : (ws : List WriteNumber) (n : ℕ) → 1 ≤ n → n ≤ length ws → reduce lesser (take n ws) ≡ Some (wn (lowest n (number_at ws)))
+lowest-reduced [] n a b = absurd (omega arith)
+lowest-reduced (w ∷ ws) zero a b = absurd (omega arith)
+lowest-reduced (w ∷ ws) (suc m) a b = ap Some (lowest-fold w ws m (omega arith))
 
 -- ---- the first n, the ledger after them, and their keys
 

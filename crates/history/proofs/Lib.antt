@@ -1,5 +1,4 @@
 pub mod Marking
-pub mod Firsts
 pub mod Fitting
 pub mod Placing
 pub mod Bounds

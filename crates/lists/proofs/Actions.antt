@@ -6,17 +6,15 @@ use Prim.Native.Nat.{ℕ, ◌+◌, ◌*◌, ◌≤◌, ◌<◌}
 use native.Mathlib.Omega.{arith}
 use lib.ListN.{length, get_or, take, drop, drop_of_length-le}
 use lib.Dec.{ltb}
-use borrow.Author.Tests.{ltb-true, ltb-false, lt-ltb}
+use borrow.Author.Tests.{ltb-true, ltb-false}
 use lib.Seq.{drop-cons}
 use Rattle.figure.specs.declared.Record.{Record}
 use Rattle.figure.specs.Record.{no_record}
 use Rattle.figure.specs.Refusals.{most_actions}
 use Rattle.lists.specs.Record.{record_width, record_at, record_codec}
-use Rattle.lists.specs.declared.reader.Layout.{Layout}
-use Rattle.lists.specs.Read.{read_of, actions_of}
-use Rattle.lists.specs.Walk.{handed, is_action, Took}
-use Rattle.lists.specs.declared.walker.Found.{Found}
-use Rattle.lists.specs.declared.walker.Found.TheVariants.{Action, Nothing}
+use Rattle.lists.specs.Read.{Reading, read_of, actions_of}
+use Rattle.lists.specs.Walk.{handed, Took}
+use Rattle.std.specs.Prelude.{Option, Some, None}
 use Rattle.lists.proofs.Things.{length-things, get_or-things}
 use Rattle.lists.proofs.Sized.{held}
 
@@ -40,7 +38,7 @@ module _ (s : List ℕ) where
   get_or-actions k d h = get_or-things record_codec s (read_of s).actions_at (read_of s).actions k d h
 
   -- the same of what `read` returned
-  module _ (l : Layout) (e : l ≡ read_of s) where
+  module _ (l : Reading) (e : l ≡ read_of s) where
     pub action-here : (k : ℕ) → k < l.actions → record_at s (l.actions_at + record_width * k) ∷ [] ≡ take 1 (drop k (actions_of s))
     action-here k h =
         let h' : k < (read_of s).actions = rw (e) at h in
@@ -60,28 +58,11 @@ is-left {A} {x} xs k e = at (ltb k (length xs)) refl
         let n : ◌≡◌ {A = ℕ} 1 0 = ap length z in
         absurd (omega arith)
 
-pub action-before : (s : List ℕ) (k : ℕ) {found : Found} {r : Record} → found ≡ Action r → handed found ≡ take 1 (drop k (actions_of s)) → k < most_actions
+pub action-before : (s : List ℕ) (k : ℕ) {found : Option Record} {r : Record} → found ≡ Some r → handed found ≡ take 1 (drop k (actions_of s)) → k < most_actions
 action-before s k e h = omega (arith, is-left (actions_of s) k (ap handed (sym e) ∙ h), few-actions s)
 
-pub took-action : (s : List ℕ) (k : ℕ) {found : Found} {r : Record} → found ≡ Action r → handed found ≡ take 1 (drop k (actions_of s)) → Took s k found (k + 1)
-took-action s k e h = record { found_is = h; after_is = omega (arith, ap (λ (f : Found). length (handed f)) e) }
+pub took-action : (s : List ℕ) (k : ℕ) {found : Option Record} {r : Record} → found ≡ Some r → handed found ≡ take 1 (drop k (actions_of s)) → Took s k found (k + 1)
+took-action s k e h = record { found_is = h; after_is = omega (arith, ap (λ (f : Option Record). length (handed f)) e) }
 
-pub took-none : (s : List ℕ) (k : ℕ) {found : Found} → found ≡ Nothing → handed found ≡ take 1 (drop k (actions_of s)) → Took s k found k
-took-none s k e h = record { found_is = h; after_is = omega (arith, ap (λ (f : Found). length (handed f)) e) }
-
--- what was found says whether an action is left
-pub is-there : (s : List ℕ) (k : ℕ) (found : Found) → handed found ≡ take 1 (drop k (actions_of s)) → is_action found ≡ ltb k (length (actions_of s))
-is-there s k (Action r) e = sym (lt-ltb k (length (actions_of s)) (is-left (actions_of s) k e))
-is-there s k Nothing e = at (ltb k (length (actions_of s))) refl
-  where
-    at : (t : Bool) → ltb k (length (actions_of s)) ≡ t → false ≡ t
-    at true h =
-        let z : [] ≡ get_or (actions_of s) k no_record ∷ [] = e ∙ one_left (actions_of s) k no_record (ltb-true k (length (actions_of s)) h) in
-        let n : ◌≡◌ {A = ℕ} 0 1 = ap length z in
-        absurd (omega arith)
-    at false h = refl
-
--- an action is one action more
-pub counts-one : (found : Found) → is_action found ≡ true → length (handed found) ≡ 1
-counts-one (Action r) e = refl
-counts-one Nothing e = let z : ◌≡◌ {A = ℕ} 0 1 = cc in absurd (omega arith)
+pub took-none : (s : List ℕ) (k : ℕ) {found : Option Record} → found ≡ None → handed found ≡ take 1 (drop k (actions_of s)) → Took s k found k
+took-none s k e h = record { found_is = h; after_is = omega (arith, ap (λ (f : Option Record). length (handed f)) e) }

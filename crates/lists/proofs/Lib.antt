@@ -10,6 +10,7 @@ pub mod Table
 pub mod Wire
 pub mod Wrote
 pub mod Actions
+pub mod Said
 -- promises about the whole
 pub mod RoundTrip
 pub mod Walks

@@ -2,18 +2,14 @@
 use mathlib.Core.Path.{◌≡◌, refl, sym, ap, ◌∙◌}
 use mathlib.Core.List.{List, [], ◌∷◌, ◌++◌}
 use Prim.Native.Nat.{ℕ, ◌+◌, ◌/◌, ◌%◌, ◌≤◌, ◌<◌}
-use native.Mathlib.Nat.{add_assoc, add-zero}
+use native.Mathlib.Nat.{add-zero}
 use native.Mathlib.Omega.{arith}
 use lib.ListN.{length, take, drop, length-drop}
 use lib.Seq.{get_or-drop, drop-drop, take-add}
 use Rattle.figure.specs.declared.Record.{Record}
 use Rattle.lists.specs.Bytes.{Bytes, byte_at, number_of, u32_at, u32_bytes}
+use Rattle.lists.specs.Line.{line_at}
 use Rattle.lists.specs.Record.{record_width, record_at, record_of, record_bytes}
-
--- the number of the four bytes that stand k past a place
-pub number_at : (s : List ℕ) (i k : ℕ) {a b c d x : ℕ} → a ≡ byte_at s (i + k) → b ≡ byte_at s (i + (k + 1)) → c ≡ byte_at s (i + (k + 2)) → d ≡ byte_at s (i + (k + 3)) → x ≡ number_of a b c d → x ≡ u32_at s (i + k)
-unfolding u32_at
-number_at s i k ea eb ec ed ex = rw (add_assoc i k 1, add_assoc i k 2, add_assoc i k 3, ex, ea, eb, ec, ed)
 
 -- ---- what stands at a place is what stands at the front of the rest
 pub number-drop : (s : List ℕ) (i : ℕ) → u32_at s i ≡ u32_at (drop i s) 0
@@ -22,6 +18,9 @@ number-drop s i = simp (get_or-drop, add-zero)
 
 pub record-drop : (s : List ℕ) (i : ℕ) → record_at s i ≡ record_of (drop i s)
 record-drop s i = rw (number-drop s (i + 4), number-drop (drop i s) 4) (simp (get_or-drop, add-zero, drop-drop))
+
+pub line-drop : (s : List ℕ) (i : ℕ) → line_at s i ≡ line_at (drop i s) 0
+line-drop s i = rw (record-drop s i, number-drop s (i + record_width), number-drop (drop i s) record_width) (simp drop-drop)
 
 -- ---- round trips
 pub number-back : (x : ℕ) (rest : List ℕ) → u32_at (u32_bytes x ++ rest) 0 ≡ x

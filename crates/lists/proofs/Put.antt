@@ -2,32 +2,20 @@
 use mathlib.Core.Path.{◌≡◌, refl, sym, ap, ◌∙◌}
 use mathlib.Core.Bool.{Bool, true, false}
 use mathlib.Core.List.{List, [], ◌++◌, append_assoc}
-use Prim.Native.Nat.{ℕ, ◌+◌, ◌-◌, ◌≤◌, ◌<◌}
+use Prim.Native.Nat.{ℕ, ◌+◌, ◌≤◌}
 use native.Mathlib.Nat.{zero-add}
 use native.Mathlib.Omega.{arith}
 use lib.Dec.{leb}
 use lib.ListN.{length, take, drop, length-append, length-drop}
 use lib.Seq.{take_at, drop-append-add, drop-drop, length-take-le}
-use borrow.Author.Tests.{le-leb, lt-leb, leb-true, leb-false}
+use borrow.Author.Tests.{le-leb, leb-true}
 use Rattle.figure.specs.Refusals.{pick}
 use Rattle.lists.specs.Bytes.{put, laid}
-
--- a place and a count, against the room that is left after the count
-pub room-left : (i n room : ℕ) → n ≤ room → leb (i + n) room ≡ leb i (room - n)
-room-left i n room h = at (leb i (room - n)) refl
-  where
-    at : (t : Bool) → leb i (room - n) ≡ t → leb (i + n) room ≡ t
-    at true e = le-leb (i + n) room (omega (arith, leb-true i (room - n) e))
-    at false e = lt-leb (i + n) room (omega (arith, leb-false i (room - n) e))
 
 module _ (old : List ℕ) (i : ℕ) (bytes : List ℕ) where
   pub put_in : i + length bytes ≤ length old → put old i bytes ≡ take i old ++ bytes ++ drop (i + length bytes) old
   unfolding put
   put_in h = rw (le-leb (i + length bytes) (length old) h)
-
-  pub put-out : length old < i + length bytes → put old i bytes ≡ old
-  unfolding put
-  put-out h = rw (lt-leb (i + length bytes) (length old) h)
 
   pub length-put : length (put old i bytes) ≡ length old
   unfolding put
@@ -55,10 +43,6 @@ put-put old i xs ys h =
 pub put_front : (old bytes : List ℕ) → length bytes ≤ length old → put old 0 bytes ≡ laid bytes old
 unfolding laid
 put_front old bytes h = put_in old 0 bytes (omega arith) ∙ rw (zero-add)
-
-pub length-laid : (bytes old : List ℕ) → length bytes ≤ length old → length (laid bytes old) ≡ length old
-unfolding laid
-length-laid bytes old h = simp (length-append, length-drop) (omega arith)
 
 -- bytes put just past what is laid over the front are laid after it
 pub laid-put : (xs ys old : List ℕ) → length (xs ++ ys) ≤ length old → put (laid xs old) (length xs) ys ≡ laid (xs ++ ys) old

@@ -13,10 +13,8 @@ use Rattle.figure.proofs.First.{none_first, sizes-numbered, none-append, same_no
 use Rattle.lists.specs.Bytes.{Bytes, u32_at, u32_bytes, rows, laid}
 use Rattle.lists.specs.Codec.{things_at, word_codec}
 use Rattle.lists.specs.Record.{record_width, record_bytes, record_codec}
-use Rattle.lists.specs.Read.{version, header_width, header_bytes, version_at, sizes_at, after_header, after_memory, body_of, list_bytes, read_refused, read_of, taken_as, memory_of, actions_of, action_bytes_of}
-use Rattle.lists.specs.Write.{write_refused, bytes_written, Wrote, ListHolds, Rewritten}
-use Rattle.lists.specs.declared.reader.Layout.{Layout}
-use Rattle.lists.specs.declared.writer.Written.{Written}
+use Rattle.lists.specs.Read.{Reading, version, header_width, header_bytes, version_at, sizes_at, after_header, after_memory, body_of, list_bytes, read_refused, read_of, taken_as, memory_of, actions_of, action_bytes_of}
+use Rattle.lists.specs.Write.{Written, write_refused, bytes_written, Wrote, ListHolds, Rewritten}
 use Rattle.lists.proofs.Numbers.{number-back, number-bytes, four-at}
 use Rattle.lists.proofs.Codecs.{word-lawful, record-lawful}
 use Rattle.lists.proofs.Things.{things-drop, things-rows, rows-things, length-coded}
@@ -144,7 +142,7 @@ module _ (s : List ℕ) (taken : (read_of s).number ≡ 0) where
     taken-writable room h =
         let g = good s taken in
         let z = sizes_at s in
-        let fits : length (list_bytes z (memory_of s) (action_bytes_of s)) ≤ room = rw (ap length (ap (λ (l : Layout). list_bytes l.sizes (memory_of s) (action_bytes_of s)) (sym taken-layout) ∙ same_bytes)) h in
+        let fits : length (list_bytes z (memory_of s) (action_bytes_of s)) ≤ room = rw (ap length (ap (λ (l : Reading). list_bytes l.sizes (memory_of s) (action_bytes_of s)) (sym taken-layout) ∙ same_bytes)) h in
         rw (taken-layout) (write-accepts z (memory_of s) (action_bytes_of s) room g.sizes_pass taken-memory-long (rw (taken-actions-long) g.even) (rw (taken-actions-long) g.few) fits)
 
 -- ---- the same of the contracts
@@ -167,7 +165,7 @@ written-actions z memory actions room h =
     let w = writable z memory actions room h in
     let list = list_bytes z memory actions in
     let k = list-holds z memory actions room h in
-    let n : (read_of list).actions ≡ length actions / record_width = ap (λ (l : Layout). l.actions) (list-layout z memory actions room w) ∙ omega (arith, length-list z memory actions, w.memory_many) in
+    let n : (read_of list).actions ≡ length actions / record_width = ap (λ (l : Reading). l.actions) (list-layout z memory actions room w) ∙ omega (arith, length-list z memory actions, w.memory_many) in
     taken-actions list k.taken ∙ rw (k.action_bytes_are, n)
 
 pub written-records : (z : Sizes) (memory : List ℕ) (rs : List Record) (room : ℕ) → first_of (write_refused z memory (rows record_bytes rs) room) ≡ 0 → actions_of (list_bytes z memory (rows record_bytes rs)) ≡ rs

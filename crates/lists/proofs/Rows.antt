@@ -5,25 +5,10 @@ use Prim.Native.Nat.{ℕ, suc, ◌+◌, ◌*◌, ◌≤◌, ◌<◌, zero-le}
 use native.Mathlib.Nat.{add-zero, mul-zero, mul-suc, mul-le-mul_left}
 use native.Mathlib.Numerals.{add-one}
 use native.Mathlib.Omega.{arith}
-use lib.ListN.{length, get_or, take, drop, set, length-append, take-append-drop}
-use lib.Seq.{take-suc, take-length, length-take-le, set_split}
+use lib.ListN.{length, get_or, take, length-append, take-append-drop}
+use lib.Seq.{take-suc, take-length, length-take-le}
 use Rattle.lists.specs.Bytes.{rows, put}
 use Rattle.lists.proofs.Put.{put_in, put-put, length-put}
-
--- a byte is a row of one
-abbrev pub one : ℕ → List ℕ
-one b = b ∷ []
-
-pub rows-of-one : (s : List ℕ) → rows one s ≡ s
-unfolding rows
-rows-of-one [] = refl
-rows-of-one (b ∷ s) = ap (λ (l : List ℕ). b ∷ l) (rows-of-one s)
-
--- one byte stored is one byte put
-pub set-put : (old : List ℕ) (i b : ℕ) → i < length old → set old i b ≡ put old i (one b)
-set-put old i b h =
-    set_split old i b h
-    ∙ (rw (← (add-one i)) (sym (append_assoc (take i old) (one b) (drop (i + 1) old))) ∙ sym (put_in old i (one b) (omega arith)))
 
 pub put-none : (old : List ℕ) (i : ℕ) → i ≤ length old → put old i [] ≡ old
 put-none old i h = put_in old i [] (omega arith) ∙ rw (append-nil, add-zero) (take-append-drop i old)

@@ -1,19 +1,19 @@
 -- What the reader's number says of a list, and what a caller may use of one that it takes. Assumes nothing.
 use mathlib.Core.Path.{◌≡◌, refl, sym, ap, ◌∙◌}
-use mathlib.Core.Bool.{Bool, true, false, ◌||◌}
+use mathlib.Core.Bool.{true, false}
 use mathlib.Core.List.{List}
 use Prim.Native.Nat.{ℕ, zero, suc, ◌+◌, ◌-◌, ◌*◌, ◌/◌, ◌%◌, ◌≤◌}
 use native.Mathlib.Omega.{arith}
 use lib.ListN.{length}
 use lib.Dec.{ltb}
 use borrow.Author.Tests.{ltb-false, eqb-true, not-false}
+use Rattle.std.proofs.lemmas.Bool.{or_parts}
 use Rattle.figure.specs.declared.Sizes.{Sizes}
 use Rattle.figure.specs.Refusals.{first_of, NoneApplies, numbered, outside, sizes_refused, most_engines, most_addresses, most_depth, most_actions}
 use Rattle.figure.proofs.First.{first-none, none_first, sizes-numbered, none-split}
 use Rattle.lists.specs.Bytes.{u32_at}
 use Rattle.lists.specs.Record.{record_width}
-use Rattle.lists.specs.declared.reader.Layout.{Layout}
-use Rattle.lists.specs.Read.{version, header_width, version_at, sizes_at, after_header, after_memory, read_refused, refused_as, taken_as, layout_of, read_of}
+use Rattle.lists.specs.Read.{Reading, version, header_width, version_at, sizes_at, after_header, after_memory, read_refused, refused_as, taken_as, layout_of, read_of}
 
 -- ---- the reader refuses exactly if a rule of its list applies
 pub read-numbered : (s : List ℕ) → numbered (read_refused s) ≡ true
@@ -31,13 +31,13 @@ unfolding read_of
 read_number s = number_is (first_of (read_refused s)) s
 
 -- "all 0 on a refusal"
-pub read-refused : (s : List ℕ) (r : Layout) → r ≡ read_of s → ¬ (r.number ≡ 0) → r ≡ refused_as r.number
+pub read-refused : (s : List ℕ) (r : Reading) → r ≡ read_of s → ¬ (r.number ≡ 0) → r ≡ refused_as r.number
 unfolding read_of layout_of
 read-refused s r h n = at (first_of (read_refused s)) h
   where
     at : (k : ℕ) → r ≡ layout_of k s → r ≡ refused_as r.number
-    at zero e = absurd (n (ap (λ (l : Layout). l.number) e))
-    at (suc k) e = e ∙ ap refused_as (sym (ap (λ (l : Layout). l.number) e))
+    at zero e = absurd (n (ap (λ (l : Reading). l.number) e))
+    at (suc k) e = e ∙ ap refused_as (sym (ap (λ (l : Reading). l.number) e))
 
 pub taken_none : (s : List ℕ) → (read_of s).number ≡ 0 → NoneApplies (read_refused s)
 taken_none s h = none_first (read_refused s) (read-numbered s) (sym (read_number s) ∙ h)
@@ -55,13 +55,9 @@ pub record InRange (z : Sizes) : Type 0 where
   pub addresses_in : Within 1 most_addresses z.addresses
   pub depth_in : Within 1 most_depth z.depth
 
-both : (a b : Bool) → a || b ≡ false → (a ≡ false) × (b ≡ false)
-both true b e = let z : ◌≡◌ {A = ℕ} 0 1 = cc in absurd (omega arith)
-both false b e = (refl, e)
-
 within : (lo hi x : ℕ) → outside lo hi x ≡ false → Within lo hi x
 within lo hi x e =
-    let w = both (ltb x lo) (ltb hi x) e in
+    let w = or_parts (ltb x lo) (ltb hi x) e in
     record { low = ltb-false x lo w.0; high = ltb-false hi x w.1 }
 
 pub in-range : (z : Sizes) → first_of (sizes_refused z) ≡ 0 → InRange z
@@ -99,7 +95,7 @@ good s z =
     }
 
 -- the same of what `read` returned: every place that a caller needs
-pub record Sized (s : List ℕ) (r : Layout) : Type 0 where
+pub record Sized (s : List ℕ) (r : Reading) : Type 0 where
   pub sizes_pass : first_of (sizes_refused r.sizes) ≡ 0
   pub sizes_in : InRange r.sizes
   pub memory_stands : r.memory_at ≡ header_width
@@ -107,26 +103,26 @@ pub record Sized (s : List ℕ) (r : Layout) : Type 0 where
   pub few : r.actions ≤ most_actions
   pub whole : r.actions_at + record_width * r.actions ≡ length s
 
-pub sized : (s : List ℕ) (r : Layout) → r ≡ read_of s → r.number ≡ 0 → Sized s r
+pub sized : (s : List ℕ) (r : Reading) → r ≡ read_of s → r.number ≡ 0 → Sized s r
 sized s r e z =
-    let g = good s (sym (ap (λ (l : Layout). l.number) e) ∙ z) in
+    let g = good s (sym (ap (λ (l : Reading). l.number) e) ∙ z) in
     rw (e ∙ g.layout_is)
     record { sizes_pass = g.sizes_pass; sizes_in = in-range (sizes_at s) g.sizes_pass; memory_stands = refl; actions_at = refl; few = g.few; whole = omega (arith, g) }
 
 -- what holds of every reading, refused or not
-pub record Held (s : List ℕ) (r : Layout) : Type 0 where
+pub record Held (s : List ℕ) (r : Reading) : Type 0 where
   pub addresses_most : r.sizes.addresses ≤ most_addresses
   pub few : r.actions ≤ most_actions
   pub memory_in : r.memory_at + 4 * r.sizes.addresses ≤ r.actions_at
   pub actions_within : r.actions_at + record_width * r.actions ≤ length s
 
-pub held : (s : List ℕ) (r : Layout) → r ≡ read_of s → Held s r
+pub held : (s : List ℕ) (r : Reading) → r ≡ read_of s → Held s r
 unfolding read_of layout_of
 held s r e = at (first_of (read_refused s)) refl
   where
     at : (n : ℕ) → first_of (read_refused s) ≡ n → Held s r
     at zero z =
-        let d = sized s r e (ap (λ (l : Layout). l.number) e ∙ (read_number s ∙ z)) in
+        let d = sized s r e (ap (λ (l : Reading). l.number) e ∙ (read_number s ∙ z)) in
         record { addresses_most = d.sizes_in.addresses_in.high; few = d.few; memory_in = omega arith; actions_within = omega arith }
     at (suc n) z =
         rw (e ∙ ap (λ (k : ℕ). layout_of k s) z)

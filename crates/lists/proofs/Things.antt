@@ -1,12 +1,12 @@
--- The things of a codec in a list of bytes: how many, which, one more, there and back; and a table that they fill. Assumes nothing.
+-- The things of a codec in a list of bytes: how many, which, one more, there and back. Assumes nothing.
 use mathlib.Core.Path.{◌≡◌, refl, ap, ◌∙◌}
 use mathlib.Core.List.{List, [], ◌∷◌, ◌++◌, append_assoc}
-use Prim.Native.Nat.{ℕ, zero, suc, ◌+◌, ◌-◌, ◌*◌, ◌≤◌, ◌<◌}
+use Prim.Native.Nat.{ℕ, zero, suc, ◌+◌, ◌*◌, ◌≤◌, ◌<◌}
 use native.Mathlib.Nat.{add-zero, zero-add, mul-zero, mul-suc}
 use native.Mathlib.Omega.{arith}
-use lib.ListN.{length, get_or, take, drop, set, replicate, length-append}
-use lib.Seq.{set_at, drop_at, drop-drop, take-add}
-use Rattle.lists.specs.Bytes.{Bytes, rows, padded}
+use lib.ListN.{length, get_or, take, drop}
+use lib.Seq.{drop_at, drop-drop, take-add}
+use Rattle.lists.specs.Bytes.{Bytes, rows}
 use Rattle.lists.specs.Codec.{Codec, Lawful, things_at}
 use Rattle.lists.proofs.Rows.{length-rows}
 
@@ -66,10 +66,3 @@ module _ {A : Type 0} {c : Codec A} (l : Lawful c) where
 
   pub length-coded : (xs : List A) → length (rows c.bytes xs) ≡ c.width * length xs
   length-coded = length-rows c.bytes c.width l.wide
-
--- a number stored past those of a table
-pub padded-more : (n : ℕ) (xs : List ℕ) (v : ℕ) → length xs < n → set (padded n xs) (length xs) v ≡ padded n (xs ++ (v ∷ []))
-padded-more n xs v h =
-    let left : n - length xs ≡ suc (n - (length xs + 1)) = omega arith in
-    let long : length (xs ++ (v ∷ [])) ≡ length xs + 1 = length-append xs (v ∷ []) in
-    rw (left, long, append_assoc) (set_at xs 0 (replicate (n - (length xs + 1)) 0) v (length xs) refl)

@@ -12,8 +12,7 @@ use Rattle.figure.proofs.First.{first-none, none_first, sizes-numbered, none-app
 use Rattle.lists.specs.Bytes.{laid}
 use Rattle.lists.specs.Record.{record_width}
 use Rattle.lists.specs.Read.{header_width, list_bytes}
-use Rattle.lists.specs.Write.{write_refused, bytes_written, Wrote, Unwritten}
-use Rattle.lists.specs.declared.writer.Written.{Written}
+use Rattle.lists.specs.Write.{Written, write_refused, bytes_written, Wrote, Unwritten}
 use Rattle.lists.proofs.Refused.{parts_refused}
 use Rattle.lists.proofs.Sized.{InRange, in-range}
 use Rattle.lists.proofs.Put.{laid_none}

@@ -1,11 +1,13 @@
 -- Lists on the wire, and what the reader finds in them. Assumes nothing.
-use Rattle.std.specs.Prelude.{List, [], ◌∷◌, ◌++◌, not, ℕ, zero, suc, ◌+◌, ◌-◌, ◌*◌, ◌/◌, ◌%◌, length, take, drop, ltb, eqb}
+use Rattle.std.specs.Prelude.{List, [], ◌∷◌, ◌++◌, not, ℕ, zero, suc, ◌+◌, ◌-◌, ◌*◌, ◌/◌, ◌%◌, length, take, drop, ltb, eqb, Result, Ok, Err}
 use Rattle.figure.specs.declared.Sizes.{Sizes}
 use Rattle.figure.specs.declared.Record.{Record}
 use Rattle.figure.specs.Refusals.{Refusal, ◌when◌, first_of, sizes_refused, most_addresses, most_actions}
 use Rattle.lists.specs.Bytes.{word_width, byte_at, u32_at, u32_bytes, rows, padded}
 use Rattle.lists.specs.Codec.{things_at, word_codec}
 use Rattle.lists.specs.Record.{record_width, record_codec}
+use Rattle.figure.specs.declared.refused.Refused.{Refused}
+use Rattle.figure.specs.Refused.{number_of}
 use Rattle.lists.specs.declared.reader.Layout.{Layout}
 
 -- "Then one version byte, 1."
@@ -56,22 +58,36 @@ read_refused s =
     ∷ 9 when ltb most_actions (after_memory s / record_width)
     ∷ []
 
+-- what the reader says: 0 or the number of what it refuses, the sizes, and where memory and actions begin
+pub record Reading : Type 0 where
+  pub number : ℕ
+  pub sizes : Sizes
+  pub memory_at : ℕ
+  pub actions_at : ℕ
+  pub actions : ℕ
+
 -- "all 0 on a refusal"
-abbrev pub refused_as : ℕ → Layout
+abbrev pub refused_as : ℕ → Reading
 refused_as n =
     record { number = n; sizes = record { engines = 0; addresses = 0; depth = 0 }; memory_at = 0; actions_at = 0; actions = 0 }
 
 -- "The reader gives the sizes and where memory and actions begin"
-abbrev pub taken_as : List ℕ → Layout
+abbrev pub taken_as : List ℕ → Reading
 taken_as s =
     record { number = 0; sizes = sizes_at s; memory_at = header_width; actions_at = header_width + word_width * (sizes_at s).addresses; actions = after_memory s / record_width }
 
-unfoldable pub layout_of : ℕ → List ℕ → Layout
+unfoldable pub layout_of : ℕ → List ℕ → Reading
 layout_of zero s = taken_as s
 layout_of (suc n) s = refused_as (suc n)
 
-unfoldable pub read_of : List ℕ → Layout
+unfoldable pub read_of : List ℕ → Reading
 read_of s = layout_of (first_of (read_refused s)) s
+
+-- what each answer of the reader says
+abbrev pub reading : Result Layout Refused → Reading
+reading (Ok l) =
+    record { number = 0; sizes = l.sizes; memory_at = l.memory_at; actions_at = l.actions_at; actions = l.actions }
+reading (Err e) = refused_as (number_of e)
 
 -- ---- what a list holds; nothing where the reader refuses
 

@@ -1,11 +1,12 @@
 -- What the writer answers, and what it leaves in the output. Assumes nothing.
-use Rattle.std.specs.Prelude.{◌≡◌, List, [], ◌∷◌, ◌++◌, not, ℕ, ◌/◌, ◌%◌, length, ltb, eqb}
+use Rattle.std.specs.Prelude.{◌≡◌, List, [], ◌∷◌, ◌++◌, not, ℕ, ◌/◌, ◌%◌, length, ltb, eqb, Result, Ok, Err}
 use Rattle.figure.specs.declared.Sizes.{Sizes}
 use Rattle.figure.specs.Refusals.{Refusal, ◌when◌, first_of, unless, sizes_refused, most_actions}
 use Rattle.lists.specs.Bytes.{laid}
 use Rattle.lists.specs.Record.{record_width}
 use Rattle.lists.specs.Read.{list_bytes, read_of, memory_of, action_bytes_of}
-use Rattle.lists.specs.declared.writer.Written.{Written}
+use Rattle.figure.specs.declared.refused.Refused.{Refused}
+use Rattle.figure.specs.Refused.{number_of}
 
 -- "Writer: 4, 5, 6, 10, 8, 9, 30"; room is how many bytes the output has
 unfoldable pub write_refused : Sizes → List ℕ → List ℕ → ℕ → List Refusal
@@ -21,6 +22,16 @@ write_refused z memory actions room =
 unfoldable pub bytes_written : Sizes → List ℕ → List ℕ → ℕ → List ℕ
 bytes_written z memory actions room =
     unless (first_of (write_refused z memory actions room)) (list_bytes z memory actions) []
+
+-- what the writer says: 0 or the number of what it refuses, and the list's length
+pub record Written : Type 0 where
+  pub number : ℕ
+  pub length : ℕ
+
+-- what each answer of the writer says
+abbrev pub written : Result ℕ Refused → Written
+written (Ok n) = record { number = 0; length = n }
+written (Err e) = record { number = number_of e; length = 0 }
 
 -- "answers with the list's length, 0 on a refusal"
 pub record Wrote (z : Sizes) (memory actions old : List ℕ) (r : Written) (new : List ℕ) : Type 0 where

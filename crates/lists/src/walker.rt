@@ -1,43 +1,38 @@
 // The walker: it holds a list's bytes and its place, and hands out one action after another.
-ghost use Rattle.std.specs.Prelude.{◌≡◌, length, take, drop};
+ghost use Rattle.std.specs.Prelude.{◌≡◌, ⊤, length, take, drop};
+ghost use Rattle.std.specs.Iterator.{YieldsFirst, MakesProgress, item_count};
 ghost use Rattle.lists.specs.Read.{actions_of};
-ghost use Rattle.lists.specs.Walk.{handed, is_action, Took, WalkerTook};
+ghost use Rattle.lists.specs.Walk.{handed, ahead, Took, WalkerTook};
 
 use crate::bytes::{RECORD, record_at};
 use crate::reader::read;
 use figure::Record;
 
-// One action, or that none is left.
-#[derive(Clone, Copy)]
-pub enum Found {
-    Action(Record),
-    Nothing,
-}
-
-// What one step of a walk gives: what was found, and the place after it.
-#[derive(Clone, Copy)]
+// What one step of a walk gives: the action that was found, if any is left, and the place after it.
+#[derive(Clone, Copy, Debug, PartialEq, Eq)]
 pub struct Taken {
-    pub found: Found,
+    pub found: Option<Record>,
     pub after: usize,
 }
 
-#[derive(Clone, Copy)]
+#[derive(Clone, Copy, Debug, PartialEq, Eq)]
 pub struct Walker<'a> {
     pub list: &'a [u8],
     pub place: usize,
 }
 
 // The action at a place, for callers that hold no walker.
-pub fn action_at(list: &[u8], place: usize) -> Found
+// Kept: a function beside the walker, since the theorems action_at_answers and action_at_one of promises are about it; the same for taken_at.
+pub fn action_at(list: &[u8], place: usize) -> Option<Record>
     ensures { handed result ≡ take 1 (drop place (actions_of list.now)) }
 {
-    let l = read(list);
-    let at = l.actions_at;
-    let n = l.actions;
-    if place < n {
-        Found::Action(record_at(list, at + RECORD * place))
+    let Ok(l) = read(list) else {
+        return None;
+    };
+    if place < l.actions {
+        Some(record_at(list, l.actions_at + RECORD * place))
     } else {
-        Found::Nothing
+        None
     }
 }
 
@@ -45,39 +40,39 @@ pub fn action_at(list: &[u8], place: usize) -> Found
 pub fn taken_at(list: &[u8], place: usize) -> Taken
     ensures { Took list.now place result.found result.after }
 {
-    let found = action_at(list, place);
-    match found {
-        Found::Action(_) => Taken {
-            found,
+    match action_at(list, place) {
+        Some(action) => Taken {
+            found: Some(action),
             after: place + 1,
         },
-        Found::Nothing => Taken {
-            found,
+        None => Taken {
+            found: None,
             after: place,
         },
     }
 }
 
-pub fn start<'a>(list: &'a [u8]) -> Walker<'a>
+pub fn start(list: &[u8]) -> Walker<'_>
     ensures { (result.list ≡ list.entry) × (result.place ≡ 0) }
 {
     Walker { list, place: 0 }
 }
 
-pub fn next<'s, 'a>(w: &'s mut Walker<'a>) -> Found
-    ensures { WalkerTook w.old result w.new }
-{
-    let t = taken_at(w.list, w.place);
-    w.place = t.after;
-    t.found
-}
+impl<'a> Iterator for Walker<'a> {
+    type Item = Record;
 
-fn is_action(f: Found) -> bool
-    ensures { result ≡ is_action f }
-{
-    match f {
-        Found::Action(_) => true,
-        Found::Nothing => false,
+    ghost next_gives = { YieldsFirst ahead };
+
+    ghost remaining = { item_count ahead };
+
+    fn next(&mut self) -> Option<Record>
+        ensures took { WalkerTook self.old result self.new }
+        ensures steps { YieldsFirst ahead self.old result self.new }
+        ensures goes { MakesProgress (λ _. ⊤) (item_count ahead) self.old result self.new }
+    {
+        let Taken { found, after } = taken_at(self.list, self.place);
+        self.place = after;
+        found
     }
 }
 
@@ -85,10 +80,5 @@ fn is_action(f: Found) -> bool
 pub fn count(list: &[u8]) -> usize
     ensures { result ≡ length (actions_of list.now) }
 {
-    let mut w = start(list);
-    let mut n = 0;
-    while is_action(next(&mut w)) {
-        n = n + 1;
-    }
-    n
+    start(list).count()
 }

@@ -12,12 +12,12 @@ use Rattle.figure.specs.declared.Record.{Record}
 use Rattle.lists.proofs.Walks.{past_the_end, refused_none}
 use Rattle.lists.proofs.Wrote.{refused-write}
 use Rattle.lists.proofs.Sized.{read-refused}
+use Rattle.lists.specs.Read.{reading}
 use Rattle.shape.proofs.Kept.{refused-keeps}
 use Rattle.shape.proofs.Numbers.{made-zeros}
 use Rattle.shape.proofs.Trails.{refused-turns}
-use Rattle.shape.specs.Step.{stepped}
-use Rattle.shape.specs.declared.Made.{Made}
-use Rattle.shape.specs.declared.Stepped.{Stepped}
+use Rattle.shape.specs.Fresh.{Made}
+use Rattle.shape.specs.Step.{Stepped, stepped, stepped_by}
 use Rattle.shape.specs.declared.Store.{Store}
 use Rattle.promises.specs.Demand1.{Demand1}
 
@@ -31,6 +31,14 @@ demand-1 =
       least_answers = record { meets = figure.least.Met.met; asks_nothing = λ κs a. tt };
       is_outside_answers = record { meets = figure.is_outside.Met.met; asks_nothing = λ κs a. tt };
       judge_sizes_answers = record { meets = figure.judge_sizes.Met.met; asks_nothing = λ κs a. tt };
+      kind_code_answers = record { meets = figure.kind.Kind.code.Met.met; asks_nothing = λ κs a. tt };
+      kind_of_answers = record { meets = figure.kind.KindTryFromU8.try_from.Met.met; asks_nothing = λ κs a. tt };
+      uses_address_answers = record { meets = figure.kind.Kind.uses_address.Met.met; asks_nothing = λ κs a. tt };
+      uses_data_answers = record { meets = figure.kind.Kind.uses_data.Met.met; asks_nothing = λ κs a. tt };
+      is_kind_answers = record { meets = figure.Record.is.Met.met; asks_nothing = λ κs a. tt };
+      is_refusal_answers = record { meets = figure.Record.is_refusal.Met.met; asks_nothing = λ κs a. tt };
+      engine_place_answers = record { meets = figure.Engine.place.Met.met; asks_nothing = λ κs a. tt };
+      refusal_number_answers = record { meets = figure.refused.Refused.number.Met.met; asks_nothing = λ κs a. tt };
       none_entered_answers = record { meets = figure.ledger.none_entered.Met.met; asks_nothing = λ κs a. tt };
       is_engine_answers = record { meets = figure.ledger.is_engine.Met.met; asks_nothing = λ κs a. tt };
       entered_answers = record { meets = figure.ledger.entered.Met.met; asks_nothing = λ κs a. tt };
@@ -46,7 +54,7 @@ demand-1 =
       action_at_answers = record { meets = lists.walker.action_at.Met.met; asks_nothing = λ κs a. tt };
       taken_at_answers = record { meets = lists.walker.taken_at.Met.met; asks_nothing = λ κs a. tt };
       start_answers = record { meets = lists.walker.start.Met.met; asks_nothing = λ κs a. tt };
-      next_answers = record { meets = lists.walker.next.Met.met; asks_nothing = λ κs a. tt };
+      next_answers = record { meets = lists.walker.WalkerIterator.next.Met.met; asks_nothing = λ κs a. tt };
       count_answers = record { meets = lists.walker.count.Met.met; asks_nothing = λ κs a. tt };
       fresh_answers = record { meets = store.fresh.Met.met; asks_nothing = λ κs a. tt };
       sound_answers = record { meets = store.sound.Met.met; asks_nothing = λ κs a. tt };
@@ -59,12 +67,12 @@ demand-1 =
       trace_text_answers = record { meets = report.trace_text.Met.met; asks_nothing = λ κs a. tt };
       show_text_answers = record { meets = report.show_text.Met.met; asks_nothing = λ κs a. tt };
       fresh_zeros = λ κs a r e h n. ap (λ (m : Made). m.store) h ∙ made-zeros a.0 a.1.0.now (λ z. n (ap (λ (m : Made). m.number) h ∙ z));
-      step_stays = λ κs a r e h. stays a.0 a.1.0 r h;
-      once_stays = λ κs a r e h. stays a.0 a.1.0 r h;
+      step_stays = λ κs a r e h. stays a.0 a.1.0 (stepped_by r) h;
+      once_stays = λ κs a r e h. stays a.0 a.1.0 (stepped_by r) h;
       in_place_stays = λ κs a r e h n. let k = refused-keeps a.0.now a.1.0 (λ z. n (rw h.1 z)) in (h.0 ∙ k.0, rw h.1 k.1);
       turns_stay = λ κs a r e h. refused-turns h;
-      read_zeros = λ κs a r e h n. read-refused a.0.now r h n;
+      read_zeros = λ κs a r e h n. read-refused a.0.now (reading r) h n;
       write_stays = λ κs a r e h. refused-write h;
-      next_none = λ κs a r e h n. past_the_end h (rw (refused_none a.0.now.list.now n) (omega arith));
+      next_none = λ κs a r e h n. past_the_end h.0 (rw (refused_none a.0.now.list.now n) (omega arith));
       run_stays = λ κs a r e h. refused-run h;
     }

@@ -1,15 +1,14 @@
 -- Demand 2 holds of the calls. Assumes nothing.
 use mathlib.Core.Path.{◌≡◌, refl, sym, ap, ◌∙◌}
 use mathlib.Core.Bool.{true}
-use mathlib.Core.List.{List}
+use mathlib.Core.List.{List, [], ◌∷◌, ◌++◌}
 use Prim.Native.Nat.{ℕ, ◌*◌, ◌≤◌}
 use denote.Array.{Array}
 use denote.Builtin.{u8}
 use lib.ListN.{length, take}
 use Rattle.demands.proofs.Demands.{run-refuses, run-numbered, reader-took, run-trace}
 use Rattle.demands.proofs.Runs.{fresh-taken}
-use Rattle.demands.specs.Run.{run_sizes, run_fresh, run_action, run_trace, Ran}
-use Rattle.demands.specs.declared.Counts.{Counts}
+use Rattle.demands.specs.Run.{Answered, run_sizes, run_fresh, run_action, run_trace, Ran}
 use Rattle.figure.proofs.First.{first-none, none_first}
 use Rattle.figure.specs.Refusals.{Refusal, first_of, numbered, unless}
 use Rattle.figure.specs.declared.Record.{Record}
@@ -18,22 +17,19 @@ use Rattle.lists.proofs.RoundTrip.{reads-back, writes-back}
 use Rattle.lists.proofs.Sized.{read_number, read-numbered}
 use Rattle.lists.proofs.Wrote.{write-numbered}
 use Rattle.lists.specs.Bytes.{rows, laid}
-use Rattle.lists.specs.Read.{read_of, memory_of, action_bytes_of}
+use Rattle.lists.specs.Read.{Reading, read_of, memory_of, action_bytes_of}
 use Rattle.lists.specs.Record.{record_width, record_bytes}
-use Rattle.lists.specs.Write.{Wrote, Rewritten}
-use Rattle.lists.specs.declared.writer.Written.{Written}
-use Rattle.lists.specs.declared.reader.Layout.{Layout}
+use Rattle.lists.specs.Write.{Written, Wrote, Rewritten}
 use Rattle.shape.proofs.Bridge.{demand-2}
 use Rattle.shape.proofs.Kept.{fresh-numbered}
 use Rattle.shape.proofs.Numbers.{step-number, made-number, made-store}
 use Rattle.shape.proofs.Taken.{step-numbered}
 use Rattle.shape.specs.Demand.{Steps}
-use Rattle.shape.specs.Fresh.{fresh_of, fresh_refused, made}
-use Rattle.shape.specs.Step.{step_refused, stepped}
+use Rattle.shape.specs.Fresh.{Made, fresh_of, fresh_refused, made}
+use Rattle.shape.specs.Step.{Stepped, stepped_by, step_refused, stepped}
+use Rattle.shape.specs.Trace.{traced}
 use Rattle.shape.specs.Turns.{action_at, turns_of, store_after, trace_after, FreshTurned}
 use Rattle.shape.specs.declared.Answer.{Answer}
-use Rattle.shape.specs.declared.Made.{Made}
-use Rattle.shape.specs.declared.Stepped.{Stepped}
 use Rattle.shape.specs.declared.Store.{Store}
 use Rattle.promises.proofs.Typed.{of-shaped, of-bytes}
 use Rattle.promises.specs.Demand2.{Value, OnSound, Judged, Chain, start, after, Demand2}
@@ -55,10 +51,10 @@ unfolding store_after trace_after
 chain-store start = (refl, refl)
 chain-store {s} {x} (after {k} {t} {es} c κs r e h) =
     let q = chain-store c in
-    let g : r ≡ stepped (store_after s x k) (x k) = rw (← q.0) h in
-    (ap (λ (u : Stepped). u.store) g, rw (q.1, g))
+    let g : stepped_by r ≡ stepped (store_after s x k) (x k) = rw (← q.0) h in
+    (ap (λ (u : Stepped). u.store) g, rw q.1 (ap (λ (u : Stepped). trace_after s x k ++ (traced u ∷ [])) g))
 
-in_turn : {list trace account : List ℕ} {r : Counts} {trace' account' : List ℕ} {z : Sizes} {table : List ℕ} {m : Made} → Ran list trace account r trace' account' → m ≡ made z table → r.number ≡ 0 → z ≡ run_sizes list → table ≡ memory_of list
+in_turn : {list trace account : List ℕ} {r : Answered} {trace' account' : List ℕ} {z : Sizes} {table : List ℕ} {m : Made} → Ran list trace account r trace' account' → m ≡ made z table → r.number ≡ 0 → z ≡ run_sizes list → table ≡ memory_of list
     → (t : Store) (es : List Record) → Chain m.store (run_action list) (read_of list).actions t es → take (record_width * (read_of list).actions) trace' ≡ rows record_bytes es
 unfolding run_trace
 in_turn {list} {m = m} h e n p q t es c =
@@ -74,7 +70,7 @@ turns_in_turn {z} {table} {actions} {trace} {m = m} h e n p q t es c =
     let f : m.store ≡ fresh_of z table = ap (λ (u : Made). u.store) e ∙ rw (p, q) (made-store z table (made-number z table ∙ k)) in
     h.trace_is ∙ rw (k, (chain-store c).1, f)
 
-rewrites : {list : List ℕ} {l : Layout} {z : Sizes} {memory actions out : List ℕ} {r : Written} {out' : List ℕ} → l ≡ read_of list → Wrote z memory actions out r out'
+rewrites : {list : List ℕ} {l : Reading} {z : Sizes} {memory actions out : List ℕ} {r : Written} {out' : List ℕ} → l ≡ read_of list → Wrote z memory actions out r out'
     → l.number ≡ 0 → Value (Array u8 (length list)) list → z ≡ l.sizes → memory ≡ memory_of list → actions ≡ action_bytes_of list → length list ≤ length out → Rewritten list out r out'
 rewrites {list} e w n b p q s f = writes-back list (of-bytes list b) (rw (← (e)) n) f (rw (← (e), ← (p), ← (q), ← (s)) w)
 
@@ -89,7 +85,7 @@ demand-two =
       sound_judges = λ κs a r e h. h;
       fresh_judges = λ κs a r e h. judged _ (fresh-numbered a.0 a.1.0.now) (ap (λ (u : Made). u.number) h ∙ made-number a.0 a.1.0.now);
       turns_judges = λ κs a r e h. judged _ (fresh-numbered a.0 a.1.0.now) h.number;
-      read_judges = λ κs a r e h. judged _ (read-numbered a.0.now) (ap (λ (u : Layout). u.number) h ∙ read_number a.0.now);
+      read_judges = λ κs a r e h. judged _ (read-numbered a.0.now) (ap (λ (u : Reading). u.number) h ∙ read_number a.0.now);
       write_judges = λ κs a r e h. judged _ (write-numbered a.0 a.1.0.now a.1.1.0.now (length a.1.1.1.0.now)) h.number_is;
       run_judges = λ κs a r e h. judged _ (run-numbered a.0.now (length a.1.0.now) (length a.1.1.0.now)) (run-refuses h);
       in_turn = λ κs a r e h κs₂ b m e₂ k. in_turn h k;

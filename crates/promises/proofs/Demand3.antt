@@ -5,13 +5,12 @@ use Prim.Native.Nat.{ℕ, ◌*◌}
 use lib.ListN.{take}
 use Rattle.demands.proofs.Demands.{run-trace, reader-took, demand-3, shorter-bytes-stay, shorter-bytes-begin}
 use Rattle.demands.specs.Demand.{Shorter}
-use Rattle.demands.specs.Run.{Ran}
-use Rattle.demands.specs.declared.Counts.{Counts}
+use Rattle.demands.specs.Run.{Answered, Ran}
 use Rattle.figure.specs.Demand.{Begins}
 use Rattle.lists.specs.Line.{line_width}
 use Rattle.promises.specs.Demand3.{Demand3Kept}
 
-module _ {list trace account : List ℕ} {r : Counts} {trace' account' : List ℕ} {longer trace₂ account₂ : List ℕ} {q : Counts} {trace₂' account₂' : List ℕ}
+module _ {list trace account : List ℕ} {r : Answered} {trace' account' : List ℕ} {longer trace₂ account₂ : List ℕ} {q : Answered} {trace₂' account₂' : List ℕ}
     (h : Ran list trace account r trace' account') (k : Ran longer trace₂ account₂ q trace₂' account₂') (ok : r.number ≡ 0) (ok₂ : q.number ≡ 0) (s : Shorter list longer) where
   settled_stays : Begins (take (line_width * r.settled) account') (take (line_width * q.settled) account₂')
   settled_stays = rw ((demand-3 h ok).settled_in_bytes, (demand-3 k ok₂).settled_in_bytes) (shorter-bytes-stay s (reader-took k ok₂))

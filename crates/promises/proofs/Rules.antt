@@ -1,6 +1,7 @@
 -- The rules' other sentences hold of the calls. Assumes nothing.
-use mathlib.Core.Path.{◌≡◌, refl, sym, ◌∙◌}
+use mathlib.Core.Path.{◌≡◌, refl, sym, ap, ◌∙◌}
 use mathlib.Core.List.{List}
+use Rattle.std.specs.Prelude.{Option}
 use Prim.Native.Nat.{ℕ, zero, suc, ◌≤◌}
 use native.Mathlib.Omega.{arith}
 use denote.Ref.{Bor}
@@ -18,21 +19,18 @@ use Rattle.lists.specs.Bytes.{rows}
 use Rattle.lists.specs.Read.{actions_of}
 use Rattle.lists.specs.Walk.{handed, Calls}
 use Rattle.lists.specs.Walk as Walk
-use Rattle.lists.specs.Write.{write_refused, bytes_written, Wrote}
-use Rattle.lists.specs.declared.walker.Found.{Found}
+use Rattle.lists.specs.Write.{Written, write_refused, bytes_written, Wrote}
 use Rattle.lists.specs.declared.walker.Walker.{Walker}
-use Rattle.lists.specs.declared.writer.Written.{Written}
 use Rattle.shape.proofs.Bridge.{fresh-agrees}
 use Rattle.shape.proofs.Kept.{fresh-table}
 use Rattle.shape.proofs.Numbers.{made-number, made-store, made-sound, made-unsound}
 use Rattle.shape.proofs.Unused.{keeps-unused}
 use Rattle.shape.proofs.Used.{same_answer}
 use Rattle.shape.specs.Fresh.{made}
-use Rattle.shape.specs.Step.{stepped, answer_of}
+use Rattle.shape.specs.Step.{Stepped, stepped, stepped_by, answer_of, answer_by}
 use Rattle.shape.specs.Unused.{SameUsed, SameAnswer}
 use Rattle.shape.specs.View.{view}
 use Rattle.shape.specs.declared.Answer.{Answer}
-use Rattle.shape.specs.declared.Stepped.{Stepped}
 use Rattle.shape.specs.declared.Store.{Store}
 use Rattle.promises.proofs.Typed.{of-shaped}
 use Rattle.promises.specs.Demand2.{Value, together}
@@ -59,11 +57,11 @@ most-written {z} {memory} {actions} {out} h = rw h.length_is (at (first_of (writ
     at zero e = rw (e) (written-most z memory actions (length out) e)
     at (suc k) e = rw (e) (omega arith)
 
-walked-calls : {w w' : Walker} {fs : List Found} → Walked w fs w' → Calls w fs w'
+walked-calls : {w w' : Walker} {fs : List (Option Record)} → Walked w fs w' → Calls w fs w'
 walked-calls none = Walk.none
-walked-calls (more κs a r e h c) = Walk.more h (walked-calls c)
+walked-calls (more κs a r e h c) = Walk.more h.0 (walked-calls c)
 
-hands_out : (list : Bor (List ℕ)) (w : Walker) → (w.list ≡ list) × (w.place ≡ 0) → (fs : List Found) (w' : Walker) → Walked w fs w' → length (actions_of list.now) ≤ length fs → rows handed fs ≡ actions_of list.now
+hands_out : (list : Bor (List ℕ)) (w : Walker) → (w.list ≡ list) × (w.place ≡ 0) → (fs : List (Option Record)) (w' : Walker) → Walked w fs w' → length (actions_of list.now) ≤ length fs → rows handed fs ≡ actions_of list.now
 hands_out list w h fs w' c n = rw (← h.0) (all-actions (walked-calls c) h.1 (rw h.0 n))
 
 pub rules : RulesKept
@@ -72,13 +70,13 @@ rules =
       fresh_is = λ κs a r e h n. rw (h) (fresh_is a.0 a.1.0.now (rw (← (h)) n));
       fresh_sound = λ κs a r e h n. rw (h) (made-sound a.0 a.1.0.now (rw (← (h)) n));
       zeros_unsound = λ κs a r e h n. rw (h) (made-unsound a.0 a.1.0.now (rw (← (h)) n));
-      both = λ κs a r e h κs₂ b q e₂ k. both a.0 b.0.now a.1.0 b.1.0 r q e₂.0.now h k;
-      unused = λ κs a r e h κs₂ b q e₂ k. unused a.0 b.0 a.1.0 b.1.0 r q h k;
-      unused_kept = λ κs a r e h. rw (h) (keeps-unused a.0 a.1.0);
+      both = λ κs a r e h κs₂ b q e₂ k. both a.0 b.0.now a.1.0 b.1.0 (stepped_by r) (answer_by q) e₂.0.now h k;
+      unused = λ κs a r e h κs₂ b q e₂ k. unused a.0 b.0 a.1.0 b.1.0 (stepped_by r) (stepped_by q) h k;
+      unused_kept = λ κs a r e h. rw (ap (λ (u : Stepped). u.store) h) (keeps-unused a.0 a.1.0);
       not_judged = λ κs a r e h κs₂ b q e₂ k z m s t. h.number_is ∙ (same-judged _ _ _ _ _ _ _ _ z m s t ∙ sym k.number_is);
       largest_read = λ κs a r e h n. taken-most a.0.now (rw (← (h)) n);
       largest_written = λ κs a r e h. most-written h;
       hands_out = λ κs a r e h. hands_out a.0 r h;
-      none_left = λ κs a r e h. past_the_end h;
+      none_left = λ κs a r e h. past_the_end h.0;
       counts = λ κs a r e h. h;
     }

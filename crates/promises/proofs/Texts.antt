@@ -7,14 +7,19 @@ use native.Mathlib.Omega.{arith}
 use lib.Dec.{eqb}
 use lib.ListN.{length, take, set}
 use Rattle.demands.proofs.Demands.{few-events}
-use Rattle.demands.specs.Run.{Ran}
-use Rattle.demands.specs.declared.Counts.{Counts}
+use Rattle.demands.specs.Run.{Answered, answered_by, Ran}
 use Rattle.figure.specs.Refusals.{pick, most_actions}
 use Rattle.lists.specs.Bytes.{laid}
-use Rattle.report.specs.Actions.{head_line, step_lines, show_text}
-use Rattle.report.specs.Events.{account_line, counts_line, refused_line, account_text}
+use Rattle.report.specs.Actions.{head_line, step_lines, show_text, show_said}
+use Rattle.report.specs.Events.{account_line, counts_line, refused_line, account_text, account_said, numbered}
 use Rattle.report.specs.Text.{written, Printed, series}
-use Rattle.promises.specs.Texts.{Shown, account_lines, TextsKept}
+use Rattle.demands.specs.declared.Counts.{Counts}
+use Rattle.std.specs.Prelude.{Result, Ok, Err}
+use borrow.Author.Tests.{ne_eqb}
+use Rattle.figure.proofs.Numbers.{not-none}
+use Rattle.figure.specs.Refused.{number_of}
+use Rattle.figure.specs.declared.refused.Refused.{Refused}
+use Rattle.promises.specs.Texts.{Shown, said_of, account_lines, TextsKept}
 
 written_after : (x : ℕ) (old : List ℕ) (i : ℕ) (text : List ℕ) → written (x ∷ old) (suc i) text ≡ x ∷ written old i text
 unfolding written
@@ -48,7 +53,28 @@ pick-within : (t : Bool) (front lines refused : List ℕ) → pick t (front ++ p
 pick-within true front lines refused = refl
 pick-within false front lines refused = refl
 
-module _ {list trace account : List ℕ} {r : Counts} {trace' account' : List ℕ} (h : Ran list trace account r trace' account') where
+handed_on : (r : Result Counts Refused) → said_of (answered_by r) ≡ numbered r
+handed_on (Ok c) = refl
+handed_on (Err e) = rw (ne_eqb (number_of e) 0 (not-none e)) refl
+
+-- what is handed on says all of the answer
+pub account-said : (r : Answered) (account : List ℕ) → account_said (said_of r) account ≡ account_text r account
+unfolding account_said account_text counts_line
+account-said r account = at (eqb r.number 0) refl
+  where
+    at : (t : Bool) → eqb r.number 0 ≡ t → account_said (said_of r) account ≡ account_text r account
+    at true e = rw (e) refl
+    at false e = rw (e) refl
+
+show-said : (list : List ℕ) (r : Answered) (trace account : List ℕ) → show_said list (said_of r) trace account ≡ show_text list r trace account
+unfolding show_said show_text account_text counts_line
+show-said list r trace account = at (eqb r.number 0) refl
+  where
+    at : (t : Bool) → eqb r.number 0 ≡ t → show_said list (said_of r) trace account ≡ show_text list r trace account
+    at true e = rw (e) refl
+    at false e = rw (e) refl
+
+module _ {list trace account : List ℕ} {r : Answered} {trace' account' : List ℕ} (h : Ran list trace account r trace' account') where
   -- no event is left out
   all_lines : account_text r account' ≡ pick (eqb r.number 0) (account_lines r account') (refused_line r.number)
   unfolding account_text
@@ -63,19 +89,20 @@ module _ {list trace account : List ℕ} {r : Counts} {trace' account' : List �
       let refused = refused_line r.number in
       ap (λ (l : List ℕ). pick (eqb r.number 0) (front ++ l) refused) all_lines ∙ pick-within (eqb r.number 0) front (account_lines r account') refused
 
-account-shown : {list trace account : List ℕ} {r : Counts} {trace' account' : List ℕ} → Ran list trace account r trace' account'
-    → {c : Counts} {bytes out : List ℕ} {n : ℕ} {out' : List ℕ} → Printed (account_text c bytes) out 0 n out' → c ≡ r → bytes ≡ account'
+account-shown : {list trace account : List ℕ} {r : Answered} {trace' account' : List ℕ} → Ran list trace account r trace' account'
+    → {c : Result Counts ℕ} {bytes out : List ℕ} {n : ℕ} {out' : List ℕ} → Printed (account_said c bytes) out 0 n out' → c ≡ said_of r → bytes ≡ account'
     → Shown (pick (eqb r.number 0) (account_lines r account') (refused_line r.number)) out n out'
-account-shown h {out = out} {n} {out'} p e f = subst (λ (t : List ℕ). Shown t out n out') (rw (e, f) (all_lines h)) (shown p)
+account-shown {r = r} {account' = account'} h {out = out} {n} {out'} p e f = subst (λ (t : List ℕ). Shown t out n out') (rw (e, f) (account-said r account' ∙ all_lines h)) (shown p)
 
-show-shown : {list trace account : List ℕ} {r : Counts} {trace' account' : List ℕ} → Ran list trace account r trace' account'
-    → {list₂ : List ℕ} {c : Counts} {records bytes out : List ℕ} {n : ℕ} {out' : List ℕ} → Printed (show_text list₂ c records bytes) out 0 n out' → list₂ ≡ list → c ≡ r → records ≡ trace' → bytes ≡ account'
+show-shown : {list trace account : List ℕ} {r : Answered} {trace' account' : List ℕ} → Ran list trace account r trace' account'
+    → {list₂ : List ℕ} {c : Result Counts ℕ} {records bytes out : List ℕ} {n : ℕ} {out' : List ℕ} → Printed (show_said list₂ c records bytes) out 0 n out' → list₂ ≡ list → c ≡ said_of r → records ≡ trace' → bytes ≡ account'
     → Shown (pick (eqb r.number 0) (head_line list ++ step_lines list trace' ++ account_lines r account') (refused_line r.number)) out n out'
-show-shown h {out = out} {n} {out'} p d e f g = subst (λ (t : List ℕ). Shown t out n out') (rw (d, e, f, g) (all_shown h)) (shown p)
+show-shown {list} {r = r} {trace'} {account'} h {out = out} {n} {out'} p d e f g = subst (λ (t : List ℕ). Shown t out n out') (rw (d, e, f, g) (show-said list r trace' account' ∙ all_shown h)) (shown p)
 
 pub texts : TextsKept
 texts =
     record {
+      handed_on = handed_on;
       account = λ κs a r e h κs₂ b n e₂ k. account-shown h k.0;
       shown = λ κs a r e h κs₂ b n e₂ k. show-shown h k.0;
       traced = λ κs a r e h. shown h.0;

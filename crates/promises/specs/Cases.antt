@@ -11,7 +11,7 @@ use Rattle.shape.specs.Cases.{cases}
 use Rattle.shape.specs.declared.Store.{Store}
 use Rattle.promises.specs.Calls.{EveryFresh, EveryRun, EveryAccountText}
 use Rattle.promises.specs.Demand2.{Chain}
-use Rattle.promises.specs.Texts.{Shown}
+use Rattle.promises.specs.Texts.{Shown, said_of}
 
 -- what the calls of the case's actions, one after another, leave: the trace, memory and the out queues
 pub record CaseStepped (c : Case) (t : Store) (es : List Record) : Type 0 where
@@ -30,7 +30,7 @@ pub record Holds (c : Case) : Type 0 where
       list ≡ list_of c → record_width * length c.turns ≤ length trace → line_width * length c.lines ≤ length account → CaseRan c trace account r trace' account')
   -- and what is printed of it, to the byte
   pub printed : EveryRun (λ list trace account r trace' account'. EveryAccountText (λ counts lines out n out'.
-      list ≡ list_of c → record_width * length c.turns ≤ length trace → line_width * length c.lines ≤ length account → counts ≡ r → lines ≡ account' → Shown (printed_text c) out n out'))
+      list ≡ list_of c → record_width * length c.turns ≤ length trace → line_width * length c.lines ≤ length account → counts ≡ said_of r → lines ≡ account' → Shown (printed_text c) out n out'))
 
 abbrev pub CasesHold : Type 0
 CasesHold = Every Holds cases

@@ -1,6 +1,6 @@
 -- Demand 2. "On a sound store a well-formed step is accepted exactly when Figure 2 allows it and the queues it adds to have room; next state and value are the figure's. Every other call refuses exactly when
 -- the rules give a number, the first in their order, and the run takes each action in turn as that step does. Lists round-trip, both ways, to the byte." Assumes nothing.
-use Rattle.std.specs.Prelude.{◌≡◌, true, List, [], ◌∷◌, ◌++◌, ℕ, suc, ◌≤◌, ◌*◌, length, take}
+use Rattle.std.specs.Prelude.{◌≡◌, true, Result, List, [], ◌∷◌, ◌++◌, ℕ, suc, ◌≤◌, ◌*◌, length, take}
 use contract.Lifetimes.{Lfts}
 use Rattle.std.specs.Borrow.{Array, u8, RattleType}
 use denote.Laws.{Is}
@@ -10,6 +10,7 @@ use Rattle.store.proofs as store
 use Rattle.demands.specs.Run.{run_sizes, run_action, run_refused}
 use Rattle.figure.specs.Refusals.{Refusal, first_of, NoneApplies, numbered}
 use Rattle.figure.specs.declared.Record.{Record}
+use Rattle.figure.specs.declared.refused.Refused.{Refused}
 use Rattle.lists.specs.Bytes.{rows, laid}
 use Rattle.lists.specs.Read.{read_refused, read_of, memory_of, action_bytes_of, memory_table}
 use Rattle.lists.specs.Record.{record_width, record_bytes}
@@ -17,11 +18,10 @@ use Rattle.lists.specs.Write.{write_refused, ListHolds, Rewritten}
 use Rattle.shape.specs.Demand.{Steps}
 use Rattle.shape.specs.Fresh.{fresh_refused}
 use Rattle.shape.specs.Sound.{sound_of}
-use Rattle.shape.specs.Step.{form_refused, step_refused}
+use Rattle.shape.specs.Step.{Stepped, stepped_by, form_refused, step_refused}
 use Rattle.shape.specs.Trace.{traced}
 use Rattle.shape.specs.Turns.{action_at, turns_of}
 use Rattle.shape.specs.declared.Answer.{Answer}
-use Rattle.shape.specs.declared.Stepped.{Stepped}
 use Rattle.shape.specs.declared.Store.{Store}
 use Rattle.promises.specs.Calls.{EveryFresh, EverySound, EveryStep, EveryOnce, EveryStepInPlace, EveryTurns, EveryRead, EveryMemoryOf, EveryWrite, EveryRun}
 
@@ -50,7 +50,7 @@ together r s = record { number = r.number; store = s; event = r.event }
 -- steps by the call, one after another: after the first k actions of x, from s, the store is t, and the trace es
 pub data Chain (s : Store) (x : ℕ → Record) : ℕ → Store → List Record → Type 0 where
   start : Chain s x 0 s []
-  after : {k : ℕ} {t : Store} {es : List Record} → Chain s x k t es → (κs : Lfts 0) (r : Stepped) (e : _) → store.step.Reads.Post κs (t, (x k, tt)) r e → Chain s x (suc k) r.store (es ++ (traced r ∷ []))
+  after : {k : ℕ} {t : Store} {es : List Record} → Chain s x k t es → (κs : Lfts 0) (r : Store × Result Record Refused) (e : _) → store.step.Reads.Post κs (t, (x k, tt)) r e → Chain s x (suc k) (stepped_by r).store (es ++ (traced (stepped_by r) ∷ []))
 
 pub record Demand2 : Type 0 where
   -- "On a sound store a well-formed step ..", by value and in place

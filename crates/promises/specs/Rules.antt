@@ -1,5 +1,5 @@
 -- The rules' other sentences about the calls: fresh stores, the step in place, unused places, the writer, the walker, the largest list. Assumes nothing.
-use Rattle.std.specs.Prelude.{◌≡◌, true, false, List, [], ◌∷◌, ◌≤◌, length, get_or}
+use Rattle.std.specs.Prelude.{◌≡◌, true, false, List, [], ◌∷◌, ◌≤◌, Option, length, get_or}
 use contract.Lifetimes.{Lfts}
 use Rattle.lists.proofs as lists
 use Rattle.shape.specs.contracts as shape
@@ -8,8 +8,8 @@ use Rattle.figure.specs.Figure as Figure
 use Rattle.lists.specs.Bytes.{rows}
 use Rattle.lists.specs.Read.{actions_of}
 use Rattle.lists.specs.Walk.{handed, NoneLeft}
-use Rattle.lists.specs.declared.walker.Found.{Found}
 use Rattle.lists.specs.declared.walker.Walker.{Walker}
+use Rattle.figure.specs.declared.Record.{Record}
 use Rattle.shape.specs.Sound.{sound_of}
 use Rattle.shape.specs.Unused.{SameUsed, SameAnswer, UnusedKept}
 use Rattle.shape.specs.View.{view}
@@ -17,9 +17,9 @@ use Rattle.promises.specs.Calls.{EveryFresh, EveryStep, EveryStepInPlace, EveryR
 use Rattle.promises.specs.Demand2.{Value, together}
 
 -- steps of a walker by the call, one after another, with what each found
-pub data Walked : Walker → List Found → Walker → Type 0 where
+pub data Walked : Walker → List (Option Record) → Walker → Type 0 where
   none : {w : Walker} → Walked w [] w
-  more : (κs : Lfts 2) (a : _) (r : Found) (e : _) → lists.walker.next.Reads.Post κs a r e → {fs : List Found} {w : Walker} → Walked e.0.now fs w → Walked a.0.now (r ∷ fs) w
+  more : (κs : Lfts 2) (a : _) (r : Option Record) (e : _) → lists.walker.WalkerIterator.next.Reads.Post κs a r e → {fs : List (Option Record)} {w : Walker} → Walked e.0.now fs w → Walked a.0.now (r ∷ fs) w
 
 pub record RulesKept : Type 0 where
   -- "A fresh store has the given memory, empty caches and empty queues."; it is sound, and "a state of zeros .. is unsound"
@@ -38,7 +38,7 @@ pub record RulesKept : Type 0 where
   pub largest_read : EveryRead (λ list r. r.number ≡ 0 → length list ≤ 16648)
   pub largest_written : EveryWrite (λ z memory actions out r out'. r.length ≤ 16648)
   -- the walker "hands out one action after another": from its start all the list's actions, in order, each once ..
-  pub hands_out : EveryStart (λ list w. (fs : List Found) (w' : Walker) → Walked w fs w' → length (actions_of list.now) ≤ length fs → rows handed fs ≡ actions_of list.now)
+  pub hands_out : EveryStart (λ list w. (fs : List (Option Record)) (w' : Walker) → Walked w fs w' → length (actions_of list.now) ≤ length fs → rows handed fs ≡ actions_of list.now)
   -- .. ", then says that none is left, its place unchanged" ("at or above their number none is left")
   pub none_left : EveryNext (λ w r w'. length (actions_of w.list.now) ≤ w.place → NoneLeft w r w')
   pub counts : EveryCount (λ list n. n ≡ length (actions_of list))

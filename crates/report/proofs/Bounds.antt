@@ -9,7 +9,7 @@ use lib.ListN.{length, length-append}
 use Rattle.figure.specs.Refusals.{pick, most_actions}
 use Rattle.lists.specs.Bytes.{Bytes, u32_at}
 use Rattle.lists.specs.Line.{line_width, line_at, no_number}
-use Rattle.demands.specs.declared.Counts.{Counts}
+use Rattle.demands.specs.Run.{Answered}
 use Rattle.report.specs.Text.{ascii, newline, series}
 use Rattle.report.specs.Decimal.{decimal, field, labelled}
 use Rattle.report.specs.Hex.{hex_byte, hex_word, trace_text, trace_text_length}
@@ -83,14 +83,14 @@ length-line account k b h =
     omega (arith, length-append (decimal (k + 1) ++ mark_field mark) (event_fields (line_at account (line_width * k)).event), length-append (decimal (k + 1)) (mark_field mark), place-digits k h, length-mark mark (word_below account _ b), length-event account k b)
 
 -- ---- the counts
-pub record CountsFit (c : Counts) : Type 0 where
+pub record CountsFit (c : Answered) : Type 0 where
   pub number_small : c.number < 2 ^ 8
   pub accepted_fits : c.accepted < 2 ^ 64
   pub refused_fits : c.refused < 2 ^ 64
   pub events_fits : c.events < 2 ^ 64
   pub settled_fits : c.settled < 2 ^ 64
 
-pub length-counts : (c : Counts) → CountsFit c → length (counts_line c) ≤ 116
+pub length-counts : (c : Answered) → CountsFit c → length (counts_line c) ≤ 116
 unfolding counts_line
 length-counts c h =
     let a = labelled (ascii "accepted ") c.accepted in
@@ -104,7 +104,7 @@ unfolding refused_line
 length-refused number h =
     omega (arith, length-append (labelled (ascii "refused ") number) newline, length-labelled (ascii "refused ") number, byte-digits number h)
 
-pub length-account-text : (c : Counts) (account : List ℕ) → CountsFit c → Bytes account → length (account_text c account) ≤ most_account_text
+pub length-account-text : (c : Answered) (account : List ℕ) → CountsFit c → Bytes account → length (account_text c account) ≤ most_account_text
 unfolding account_text
 length-account-text c account h b = at (eqb c.number 0)
   where

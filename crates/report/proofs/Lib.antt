@@ -1,9 +1,12 @@
 pub mod Bench
 pub mod Written
+pub mod Cursor
 pub mod Digits
 pub mod Series
-pub mod Fields
+pub mod Forms
+pub mod Hexed
 pub mod Bounds
-pub mod Steps
 pub mod ShowBounds
+pub mod Head
+pub mod Walking
 pub mod Worked

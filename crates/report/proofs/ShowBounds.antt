@@ -14,14 +14,14 @@ use Rattle.lists.specs.Record.{record_width, record_at}
 use Rattle.lists.specs.Read.{read_refused, layout_of, read_of, memory_of, memory_table}
 use Rattle.lists.proofs.Table.{length-memory, get_or-memory}
 use Rattle.lists.proofs.Sized.{held}
-use Rattle.demands.specs.declared.Counts.{Counts}
+use Rattle.demands.specs.Run.{Answered}
 use Rattle.report.specs.Text.{ascii, newline, series}
 use Rattle.report.specs.Decimal.{decimal, field, labelled}
 use Rattle.report.specs.Hex.{hex_byte}
-use Rattle.report.specs.Events.{account_text, refused_line}
+use Rattle.report.specs.Events.{account_text, most_account_text, refused_line}
 use Rattle.report.specs.Actions.{sizes_text, value_field, head_line, kind_name, shows_address, shows_data, field_when, action_text, well_formed, no_answer, ok_when, answer_text, refusal_text, outcome_text, byte_field, bytes_text, step_text, step_line, step_lines, show_text, most_show_text}
 use Rattle.report.proofs.Series.{length-series}
-use Rattle.report.proofs.Bounds.{CountsFit, length-labelled, byte-digits, byte-field, word-field, word_below, place-digits, length-refused, length-account-text}
+use Rattle.report.proofs.Bounds.{length-labelled, byte-digits, byte-field, word-field, word_below, place-digits, length-refused}
 
 -- ---- the head
 pub record SmallSizes (z : Sizes) : Type 0 where
@@ -154,10 +154,10 @@ length-step-lines list trace b t =
     omega (arith, length-series (step_line list (read_of list).actions_at trace) 52 (read_of list).actions (λ k h. length-step-line list (read_of list).actions_at trace k b t (omega (arith, few))), few)
 
 -- ---- the whole
-pub length-show : (list : List ℕ) (c : Counts) (trace account : List ℕ) → CountsFit c → Bytes list → Bytes trace → Bytes account → length (show_text list c trace account) ≤ most_show_text
+pub length-show : (list : List ℕ) (c : Answered) (trace account : List ℕ) → c.number < 2 ^ 8 → length (account_text c account) ≤ most_account_text → Bytes list → Bytes trace → length (show_text list c trace account) ≤ most_show_text
 unfolding show_text
-length-show list c trace account h b t d = at (eqb c.number 0)
+length-show list c trace account h d b t = at (eqb c.number 0)
   where
     at : (x : Bool) → length (pick x (head_line list ++ step_lines list trace ++ account_text c account) (refused_line c.number)) ≤ most_show_text
-    at true = omega (arith, length-append (head_line list ++ step_lines list trace) (account_text c account), length-append (head_line list) (step_lines list trace), length-head list b, length-step-lines list trace b t, length-account-text c account h d)
-    at false = omega (arith, length-refused c.number h.number_small)
+    at true = omega (arith, length-append (head_line list ++ step_lines list trace) (account_text c account), length-append (head_line list) (step_lines list trace), length-head list b, length-step-lines list trace b t, d)
+    at false = omega (arith, length-refused c.number h)

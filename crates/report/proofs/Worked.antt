@@ -11,7 +11,7 @@ use Rattle.shape.specs.Case.{Case, list_of, trace_in}
 use Rattle.shape.specs.Cases.{B4, B9}
 use Rattle.shape.specs.Turns.{bytes_of}
 use Rattle.demands.specs.Bench.{counts_of, lines_in, CaseRan}
-use Rattle.demands.specs.declared.Counts.{Counts}
+use Rattle.demands.specs.Run.{Answered}
 use Rattle.report.specs.Bench.{printed_text, Prints}
 use Rattle.report.specs.Text.{ascii, series}
 use Rattle.report.specs.Decimal.{digits_within, decimal, field, labelled}
@@ -20,7 +20,7 @@ use Rattle.report.specs.Events.{mark_field, kind_field, event_fields, account_li
 use Rattle.report.specs.Actions.{sizes_text, head_line, field_when, action_text, ok_when, answer_text, refusal_text, outcome_text, bytes_text, step_text, step_line, step_lines, show_text}
 
 -- every result that a run of the case may have prints as the table has it
-pub case-printed : {c : Case} {trace account : List ℕ} {r : Counts} {trace' account' : List ℕ} → Prints c → CaseRan c trace account r trace' account' → account_text r account' ≡ printed_text c
+pub case-printed : {c : Case} {trace account : List ℕ} {r : Answered} {trace' account' : List ℕ} → Prints c → CaseRan c trace account r trace' account' → account_text r account' ≡ printed_text c
 unfolding Bytes.laid
 case-printed {c} {account = account} p h = rw (h.counts, h.account_is) (p.text (drop (length (lines_in c)) account))
 

@@ -1,11 +1,12 @@
 -- What program `show` prints of a run: the list's head, its actions and what came of each, and the account. Assumes nothing.
-use Rattle.std.specs.Prelude.{Bool, not, ◌&&◌, ◌||◌, List, [], ◌++◌, ℕ, ◌+◌, ◌*◌, eqb, get_or}
+use Rattle.std.specs.Prelude.{Result, Ok, Err, Bool, not, ◌&&◌, ◌||◌, List, [], ◌++◌, ℕ, ◌+◌, ◌*◌, eqb, get_or}
 use Rattle.figure.specs.declared.Record.{Record}
 use Rattle.figure.specs.declared.Sizes.{Sizes}
 use Rattle.figure.specs.Refusals.{pick, outside, most_actions}
 use Rattle.lists.specs.Bytes.{byte_at}
 use Rattle.lists.specs.Record.{record_width, record_at}
 use Rattle.lists.specs.Read.{read_of, memory_table}
+use Rattle.demands.specs.Run.{Answered, answered_by}
 use Rattle.demands.specs.declared.Counts.{Counts}
 use Rattle.report.specs.Text.{ascii, newline, series}
 use Rattle.report.specs.Decimal.{decimal, field, labelled}
@@ -116,11 +117,16 @@ step_lines list trace = series (step_line list (read_of list).actions_at trace) 
 
 -- ---- the whole
 
-unfoldable pub show_text : List ℕ → Counts → List ℕ → List ℕ → List ℕ
+unfoldable pub show_text : List ℕ → Answered → List ℕ → List ℕ → List ℕ
 show_text list c trace account =
     pick (eqb c.number 0)
     (head_line list ++ step_lines list trace ++ account_text c account)
     (refused_line c.number)
+
+-- of a run's answer, whatever number is given as a refusal
+unfoldable pub show_said : List ℕ → Result Counts ℕ → List ℕ → List ℕ → List ℕ
+show_said list (Ok c) trace account = show_text list (answered_by (Ok c)) trace account
+show_said list (Err n) trace account = refused_line n
 
 -- how long it can be: 747 bytes of head, lines of 52 bytes, and the account
 abbrev pub most_show_text : ℕ

@@ -1,8 +1,11 @@
 -- What program `account` prints of a run. Assumes nothing.
-use Rattle.std.specs.Prelude.{List, ◌++◌, ℕ, ◌+◌, ◌*◌, min, eqb}
+use Rattle.std.specs.Prelude.{Result, Ok, Err, List, ◌++◌, ℕ, ◌+◌, ◌*◌, min, eqb}
 use Rattle.figure.specs.declared.Record.{Record}
 use Rattle.figure.specs.Refusals.{pick, most_actions}
+use Rattle.figure.specs.Refused.{number_of}
+use Rattle.figure.specs.declared.refused.Refused.{Refused}
 use Rattle.lists.specs.Line.{line_width, line_at, no_number}
+use Rattle.demands.specs.Run.{Answered, answered_by}
 use Rattle.demands.specs.declared.Counts.{Counts}
 use Rattle.report.specs.Text.{ascii, newline, series}
 use Rattle.report.specs.Decimal.{decimal, field, labelled}
@@ -26,7 +29,7 @@ account_line account k =
     decimal (k + 1) ++ mark_field l.number.0 ++ event_fields l.event
 
 -- "the counts", as in `accepted 14 refused 2 events 6 settled 1`
-unfoldable pub counts_line : Counts → List ℕ
+unfoldable pub counts_line : Answered → List ℕ
 counts_line c =
     labelled (ascii "accepted ") c.accepted
     ++ labelled (ascii " refused ") c.refused
@@ -38,13 +41,23 @@ unfoldable pub refused_line : ℕ → List ℕ
 refused_line number = labelled (ascii "refused ") number ++ newline
 
 -- an account has no more events than a list has actions
-abbrev pub shown : Counts → ℕ
+abbrev pub shown : Answered → ℕ
 shown c = min c.events most_actions
 
 -- "prints either `refused N` or the counts and the account"
-unfoldable pub account_text : Counts → List ℕ → List ℕ
+unfoldable pub account_text : Answered → List ℕ → List ℕ
 account_text c account =
     pick (eqb c.number 0) (counts_line c ++ series (account_line account) (shown c)) (refused_line c.number)
+
+-- a run's answer, its refusal by number
+abbrev pub numbered : Result Counts Refused → Result Counts ℕ
+numbered (Ok c) = Ok c
+numbered (Err e) = Err (number_of e)
+
+-- of such an answer, whatever number is given as a refusal
+unfoldable pub account_said : Result Counts ℕ → List ℕ → List ℕ
+account_said (Ok c) account = account_text (answered_by (Ok c)) account
+account_said (Err n) account = refused_line n
 
 -- how long it can be: 116 bytes of counts, and lines of 37 bytes
 abbrev pub most_account_text : ℕ

@@ -1,5 +1,5 @@
 -- Text as bytes, and text written into a buffer that may be too short for it. Assumes nothing.
-use Rattle.std.specs.Prelude.{◌≡◌, List, [], ◌∷◌, ◌++◌, ℕ, zero, suc, ◌+◌, ◌^◌, ◌<◌, length, set}
+use Rattle.std.specs.Prelude.{◌≡◌, List, [], ◌∷◌, ◌++◌, ℕ, zero, suc, ◌+◌, length, set}
 use Prim.Native.Char.{code}
 use Prim.Native.String.{String, [] as no_text, ◌∷◌ as ◌then◌}
 
@@ -20,10 +20,6 @@ written old i (b ∷ bs) = written (set old i b) (suc i) bs
 pub record Printed (text old : List ℕ) (i r : ℕ) (new : List ℕ) : Type 0 where
   pub place : r ≡ i + length text
   pub bytes : new ≡ written old i text
-
--- the place after the text is a number that the code can hold
-pub record Room (i : ℕ) (text : List ℕ) : Type 0 where
-  pub fits : i + length text < 2 ^ 64
 
 -- the texts f 0, f 1, .. f (n - 1), one after another
 unfoldable pub series : (ℕ → List ℕ) → ℕ → List ℕ

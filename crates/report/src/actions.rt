@@ -1,102 +1,83 @@
 // A run in words: the list's head, and a line for each action with what came of it.
-ghost use Rattle.std.specs.Prelude.{◌+◌, ◌*◌, ◌≤◌, length};
-ghost use Rattle.lists.specs.Record.{record_width};
-ghost use Rattle.report.specs.Text.{series, Room, Printed};
-ghost use Rattle.report.specs.Actions.{sizes_text, value_field, head_line, step_line, step_lines, show_text};
+#![tactic(auto, using(crate::proofs::Cursor::appending), unfolding(crate::specs::Actions::sizes_text, crate::specs::Actions::head_line, crate::specs::Actions::step_lines, crate::specs::Actions::show_text, crate::specs::Actions::show_said))]
 
-use crate::decimal::{put_decimal, put_field, put_labelled};
-use crate::events::{put_account, put_refused};
+ghost use Rattle.std.specs.Prelude.{◌≡◌, ◌≤◌, length};
+ghost use Rattle.lists.specs.Read.{read_of};
+ghost use Rattle.report.specs.Text.{series};
+ghost use Rattle.report.specs.Cursor.{appended};
+ghost use Rattle.report.specs.Actions.{sizes_text, value_field, head_line, step_lines, show_said, most_show_text};
+
+use crate::events::{put_refused, put_taken};
 use crate::step::put_step;
-use crate::text::{put_newline, put_text};
+use crate::text::Text;
 use demands::Counts;
 use figure::Sizes;
 use lists::bytes::{RECORD, record_at};
 use lists::memory::memory_of;
 use lists::reader::read;
+use lists::walker::start;
 
-fn put_sizes(out: &mut [u8], at: usize, z: Sizes) -> usize
-    requires { Room at (sizes_text z) }
-    ensures { Printed (sizes_text z) out.old at result out.new }
+// The sizes of a list, and zeros where the reader refuses it.
+fn sizes_of(list: &[u8]) -> Sizes
+    ensures { result ≡ (read_of list.now).sizes }
 {
-    let addresses_at = put_labelled(out, at, b"engines ", z.engines as u64);
-    let depth_at = put_labelled(out, addresses_at, b" addresses ", z.addresses as u64);
-    let memory_at = put_labelled(out, depth_at, b" depth ", z.depth as u64);
-    put_text(out, memory_at, b" memory")
+    read(list).map(|l| l.sizes).unwrap_or_default()
 }
 
-fn put_values(out: &mut [u8], at: usize, values: &[u32], n: usize) -> usize
-    requires { Room at (series (value_field values.now) n) × (n ≤ length values.now) }
-    ensures { Printed (series (value_field values.now) n) out.old at result out.new }
+fn put_sizes(to: &mut Text, z: Sizes)
+    ensures { to.new ≡ appended (sizes_text z) to.old }
 {
-    let mut next = at;
-    let mut k = 0;
-    while k < n {
-        next = put_field(out, next, values[k] as u64);
-        k += 1;
+    to.labelled(b"engines ", u64::from(z.engines));
+    to.labelled(b" addresses ", u64::from(z.addresses));
+    to.labelled(b" depth ", u64::from(z.depth));
+    to.text(b" memory");
+}
+
+fn put_values(to: &mut Text, values: &[u32])
+    ensures { to.new ≡ appended (series (value_field values.now) (length values.now)) to.old }
+{
+    for value in values {
+        to.field(u64::from(*value));
     }
-    next
 }
 
-pub(crate) fn put_head(out: &mut [u8], at: usize, list: &[u8]) -> usize
-    requires { Room at (head_line list.now) }
-    ensures { Printed (head_line list.now) out.old at result out.new }
+fn put_head(to: &mut Text, list: &[u8])
+    ensures { to.new ≡ appended (head_line list.now) to.old }
 {
-    let z = read(list).sizes;
+    let z = sizes_of(list);
     let table = memory_of(list);
-    let values_at = put_sizes(out, at, z);
-    let end = put_values(out, values_at, &table, z.addresses as usize);
-    put_newline(out, end)
+    put_sizes(to, z);
+    put_values(to, &table[..usize::from(z.addresses)]);
+    to.byte(b'\n');
 }
 
-fn put_step_line(
-    out: &mut [u8],
-    at: usize,
-    list: &[u8],
-    first: usize,
-    trace: &[u8],
-    k: usize,
-) -> usize
-    requires { Room at (step_line list.now first trace.now k) × (first + record_width * (k + 1) ≤ length list.now) }
-    ensures { Printed (step_line list.now first trace.now k) out.old at result out.new }
+fn put_step_lines(to: &mut Text, list: &[u8], trace: &[u8])
+    ensures { to.new ≡ appended (step_lines list.now trace.now) to.old }
 {
-    let event = record_at(trace, RECORD * k);
-    let step_at = put_decimal(out, at, k as u64 + 1);
-    let end = put_step(out, step_at, list, first + RECORD * k, event);
-    put_newline(out, end)
-}
-
-pub(crate) fn put_step_lines(out: &mut [u8], at: usize, list: &[u8], trace: &[u8]) -> usize
-    requires { Room at (step_lines list.now trace.now) }
-    ensures { Printed (step_lines list.now trace.now) out.old at result out.new }
-{
-    let l = read(list);
-    let first = l.actions_at;
-    let n = l.actions;
-    let mut next = at;
-    let mut k = 0;
-    while k < n {
-        next = put_step_line(out, next, list, first, trace, k);
-        k += 1;
+    for (k, action) in start(list).enumerate() {
+        to.decimal(k as u64 + 1);
+        put_step(to, action, record_at(trace, RECORD * k));
+        to.byte(b'\n');
     }
-    next
 }
 
+// Kept: a refusal by its number, which `show_text` hands on.
 pub(crate) fn put_show(
-    out: &mut [u8],
-    at: usize,
+    to: &mut Text,
     list: &[u8],
-    c: Counts,
+    said: Result<Counts, u8>,
     trace: &[u8],
     account: &[u8],
-) -> usize
-    requires { Room at (show_text list.now c trace.now account.now) }
-    ensures { Printed (show_text list.now c trace.now account.now) out.old at result out.new }
+)
+    ensures text { to.new ≡ appended (show_said list.now said trace.now account.now) to.old }
+    ensures short { length (show_said list.now said trace.now account.now) ≤ most_show_text }
 {
-    let number = c.number;
-    if number != 0 {
-        return put_refused(out, at, number);
+    match said {
+        Ok(c) => {
+            put_head(to, list);
+            put_step_lines(to, list, trace);
+            put_taken(to, c, account);
+        }
+        Err(number) => put_refused(to, number),
     }
-    let steps_at = put_head(out, at, list);
-    let account_at = put_step_lines(out, steps_at, list, trace);
-    put_account(out, account_at, c, account)
 }

@@ -1,68 +1,43 @@
 // Numbers in decimal digits.
-ghost use Rattle.std.specs.Prelude.{◌≡◌, length};
-ghost use Rattle.report.specs.Text.{written, Room, Printed};
-ghost use Rattle.report.specs.Decimal.{last_digit, decimal, field, labelled};
+#![tactic(auto, using(crate::proofs::Cursor::appending), unfolding(crate::specs::Decimal::field, crate::specs::Decimal::labelled))]
 
-use crate::text::{put_byte, put_text};
+ghost use Rattle.std.specs.Prelude.{◌≡◌};
+ghost use Rattle.report.specs.Cursor.{appended};
+ghost use Rattle.report.specs.Decimal.{decimal, field, labelled};
 
-fn count_digits(n: u64) -> usize
-    ensures { result ≡ length (decimal n) }
-{
-    let mut count = 1;
-    let mut rest = n;
-    while rest > 9 {
-        rest /= 10;
-        count += 1;
+use crate::text::Text;
+use itoa::Buffer;
+
+impl Text<'_> {
+    // Most numbers have one digit.
+    // Kept: a count comes here `as u64`. A usize has no From to it, and a TryFrom, whose Err never comes, is no plainer.
+    #[tactic(auto, using(crate::proofs::Cursor::appending, crate::proofs::Digits::decimal_low, crate::proofs::Digits::same_decimal))]
+    #[inline(always)]
+    pub(crate) fn decimal(&mut self, n: u64)
+        ensures { self.new ≡ appended (decimal n) self.old }
+    {
+        if n < 10 {
+            self.byte(b'0' + n as u8);
+            return;
+        }
+        let mut digits = Buffer::new();
+        self.text(digits.format(n).as_bytes());
     }
-    count
-}
 
-fn last_digit(n: u64) -> u8
-    ensures { result ≡ last_digit n }
-{
-    48 + (n % 10) as u8
-}
-
-// From the last digit to the first, so that no power of ten is needed.
-fn put_digits(out: &mut [u8], at: usize, n: u64, count: usize)
-    requires { Room at (decimal n) × (count ≡ length (decimal n)) }
-    ensures { out.new ≡ written out.old at (decimal n) }
-{
-    let mut i = count;
-    let mut rest = n;
-    while i > 0 {
-        i -= 1;
-        put_byte(out, at + i, last_digit(rest));
-        rest /= 10;
+    // A space and a number.
+    #[inline(always)]
+    pub(crate) fn field(&mut self, n: u64)
+        ensures { self.new ≡ appended (field n) self.old }
+    {
+        self.byte(b' ');
+        self.decimal(n);
     }
-}
 
-pub(crate) fn put_decimal(out: &mut [u8], at: usize, n: u64) -> usize
-    requires { Room at (decimal n) }
-    ensures { Printed (decimal n) out.old at result out.new }
-{
-    if n < 10 {
-        put_byte(out, at, last_digit(n));
-        return at + 1;
+    #[inline(always)]
+    pub(crate) fn labelled(&mut self, label: &[u8], n: u64)
+        ensures { self.new ≡ appended (labelled label.now n) self.old }
+    {
+        self.text(label);
+        self.decimal(n);
     }
-    let count = count_digits(n);
-    put_digits(out, at, n, count);
-    at + count
-}
-
-// A space and a number.
-pub(crate) fn put_field(out: &mut [u8], at: usize, n: u64) -> usize
-    requires { Room at (field n) }
-    ensures { Printed (field n) out.old at result out.new }
-{
-    put_byte(out, at, b' ');
-    put_decimal(out, at + 1, n)
-}
-
-pub(crate) fn put_labelled(out: &mut [u8], at: usize, label: &[u8], n: u64) -> usize
-    requires { Room at (labelled label.now n) }
-    ensures { Printed (labelled label.now n) out.old at result out.new }
-{
-    let next = put_text(out, at, label);
-    put_decimal(out, next, n)
 }

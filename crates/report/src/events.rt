@@ -1,100 +1,103 @@
 // The counts of a run and its account, a line for each event.
-ghost use Rattle.std.specs.Prelude.{◌<◌, ◌≤◌};
-ghost use Rattle.figure.specs.Refusals.{most_actions};
-ghost use Rattle.report.specs.Text.{series, Room, Printed};
-ghost use Rattle.report.specs.Events.{mark_field, kind_field, event_fields, account_line, counts_line, refused_line, account_text};
+#![tactic(auto, using(crate::proofs::Cursor::appending), unfolding(crate::specs::Events::mark_field, crate::specs::Events::kind_field, crate::specs::Events::event_fields, crate::specs::Events::account_line, crate::specs::Events::counts_line, crate::specs::Events::refused_line, crate::specs::Events::account_text, crate::specs::Events::account_said))]
 
-use crate::decimal::{put_decimal, put_field, put_labelled};
-use crate::text::{put_letter, put_newline};
+ghost use Rattle.std.specs.Prelude.{◌≡◌, ◌<◌, ◌≤◌, length};
+ghost use Rattle.figure.specs.Refusals.{most_actions};
+ghost use Rattle.demands.specs.Run.{answered_by};
+ghost use Rattle.report.specs.Text.{series};
+ghost use Rattle.report.specs.Cursor.{appended};
+ghost use Rattle.report.specs.Events.{mark_field, kind_field, event_fields, account_line, counts_line, refused_line, account_text, account_said, most_account_text};
+
+use crate::text::Text;
 use demands::Counts;
-use figure::{Record, WriteNumber, least};
+use figure::{Kind, Record, WriteNumber};
 use lists::line::{LINE, NO_NUMBER, line_at};
 use lists::reader::MOST_ACTIONS;
 
-const READ: u8 = 1;
-
-fn put_mark(out: &mut [u8], at: usize, mark: WriteNumber) -> usize
-    requires { Room at (mark_field mark.0) }
-    ensures { Printed (mark_field mark.0) out.old at result out.new }
+fn put_mark(to: &mut Text, mark: WriteNumber)
+    ensures { to.new ≡ appended (mark_field mark.0) to.old }
 {
     if mark.0 == NO_NUMBER {
-        return put_letter(out, at, b'-');
+        to.text(b" -");
+    } else {
+        to.field(u64::from(mark.0));
     }
-    put_field(out, at, mark.0 as u64)
 }
 
-fn put_kind(out: &mut [u8], at: usize, kind: u8) -> usize
-    requires { Room at (kind_field kind) }
-    ensures { Printed (kind_field kind) out.old at result out.new }
+// Of any record: an account may be any bytes, and `kind_field` prints W for each kind but a read's, also for what is no kind.
+fn put_kind(to: &mut Text, e: Record)
+    ensures { to.new ≡ appended (kind_field e.kind) to.old }
 {
-    if kind == READ {
-        return put_letter(out, at, b'R');
+    if e.is(Kind::Read) {
+        to.text(b" R");
+    } else {
+        to.text(b" W");
     }
-    put_letter(out, at, b'W')
 }
 
-fn put_event(out: &mut [u8], at: usize, e: Record) -> usize
-    requires { Room at (event_fields e) }
-    ensures { Printed (event_fields e) out.old at result out.new }
+fn put_event(to: &mut Text, e: Record)
+    ensures { to.new ≡ appended (event_fields e) to.old }
 {
-    let engine_at = put_kind(out, at, e.kind);
-    let address_at = put_field(out, engine_at, e.engine.0 as u64);
-    let data_at = put_field(out, address_at, e.address.0 as u64);
-    let end = put_field(out, data_at, e.data as u64);
-    put_newline(out, end)
+    put_kind(to, e);
+    to.field(u64::from(e.engine.0));
+    to.field(u64::from(e.address.0));
+    to.field(u64::from(e.data));
+    to.byte(b'\n');
 }
 
-fn put_account_line(out: &mut [u8], at: usize, account: &[u8], k: usize) -> usize
-    requires { Room at (account_line account.now k) × (k < most_actions) }
-    ensures { Printed (account_line account.now k) out.old at result out.new }
+fn put_account_line(to: &mut Text, account: &[u8], k: usize)
+    requires { k < most_actions }
+    ensures { to.new ≡ appended (account_line account.now k) to.old }
 {
     let l = line_at(account, LINE * k);
-    let mark_at = put_decimal(out, at, k as u64 + 1);
-    let event_at = put_mark(out, mark_at, l.number);
-    let event = l.event;
-    put_event(out, event_at, event)
+    to.decimal(k as u64 + 1);
+    put_mark(to, l.number);
+    put_event(to, l.event);
 }
 
-fn put_lines(out: &mut [u8], at: usize, account: &[u8], n: usize) -> usize
-    requires { Room at (series (account_line account.now) n) × (n ≤ most_actions) }
-    ensures { Printed (series (account_line account.now) n) out.old at result out.new }
+// Kept: a count and no chunks of the account, since a line past its end reads as zeros (`account_text` promises so many lines of any bytes).
+fn put_lines(to: &mut Text, account: &[u8], n: usize)
+    requires { n ≤ most_actions }
+    ensures { to.new ≡ appended (series (account_line account.now) n) to.old }
 {
-    let mut next = at;
-    let mut k = 0;
-    while k < n {
-        next = put_account_line(out, next, account, k);
-        k += 1;
+    for k in 0..n {
+        put_account_line(to, account, k);
     }
-    next
 }
 
-fn put_counts(out: &mut [u8], at: usize, c: Counts) -> usize
-    requires { Room at (counts_line c) }
-    ensures { Printed (counts_line c) out.old at result out.new }
+fn put_counts(to: &mut Text, c: Counts)
+    ensures { to.new ≡ appended (counts_line (answered_by (Ok c))) to.old }
 {
-    let refused_at = put_labelled(out, at, b"accepted ", c.accepted as u64);
-    let events_at = put_labelled(out, refused_at, b" refused ", c.refused as u64);
-    let settled_at = put_labelled(out, events_at, b" events ", c.events as u64);
-    let end = put_labelled(out, settled_at, b" settled ", c.settled as u64);
-    put_newline(out, end)
+    to.labelled(b"accepted ", c.accepted as u64);
+    to.labelled(b" refused ", c.refused as u64);
+    to.labelled(b" events ", c.events as u64);
+    to.labelled(b" settled ", c.settled as u64);
+    to.byte(b'\n');
 }
 
-pub(crate) fn put_refused(out: &mut [u8], at: usize, number: u8) -> usize
-    requires { Room at (refused_line number) }
-    ensures { Printed (refused_line number) out.old at result out.new }
+pub(crate) fn put_refused(to: &mut Text, number: u8)
+    ensures text { to.new ≡ appended (refused_line number) to.old }
+    ensures short { length (refused_line number) ≤ 12 }
 {
-    let end = put_labelled(out, at, b"refused ", number as u64);
-    put_newline(out, end)
+    to.labelled(b"refused ", u64::from(number));
+    to.byte(b'\n');
 }
 
-pub(crate) fn put_account(out: &mut [u8], at: usize, c: Counts, account: &[u8]) -> usize
-    requires { Room at (account_text c account.now) }
-    ensures { Printed (account_text c account.now) out.old at result out.new }
+pub(crate) fn put_taken(to: &mut Text, c: Counts, account: &[u8])
+    ensures text { to.new ≡ appended (account_text (answered_by (Ok c)) account.now) to.old }
+    ensures short { length (account_text (answered_by (Ok c)) account.now) ≤ most_account_text }
 {
-    let number = c.number;
-    if number != 0 {
-        return put_refused(out, at, number);
+    put_counts(to, c);
+    put_lines(to, account, c.events.min(MOST_ACTIONS));
+}
+
+// Kept: a refusal by its number, which `account_text` hands on.
+pub(crate) fn put_account(to: &mut Text, said: Result<Counts, u8>, account: &[u8])
+    ensures text { to.new ≡ appended (account_said said account.now) to.old }
+    ensures short { length (account_said said account.now) ≤ most_account_text }
+{
+    match said {
+        Ok(c) => put_taken(to, c, account),
+        Err(number) => put_refused(to, number),
     }
-    let lines_at = put_counts(out, at, c);
-    put_lines(out, lines_at, account, least(c.events, MOST_ACTIONS))
 }

@@ -1,41 +1,25 @@
 // How an action can be shown.
-ghost use Rattle.std.specs.Prelude.{◌≡◌, ◌||◌, eqb};
-ghost use Rattle.report.specs.Actions.{shows_address, shows_data, no_answer, well_formed};
+ghost use Rattle.std.specs.Prelude.{◌≡◌};
+ghost use Rattle.report.specs.Form.{zero_where_hidden, ShownAs};
 
-use figure::{Record, is_outside};
+use figure::{Kind, Record};
 
-pub(crate) fn shows_address(kind: u8) -> bool
-    ensures { result ≡ shows_address kind }
+fn is_zero_where_hidden(kind: Kind, a: Record) -> bool
+    ensures { result ≡ zero_where_hidden kind a }
 {
-    kind != 3 && kind != 5
+    (kind.uses_address() || a.address.0 == 0) && (kind.uses_data() || a.data == 0)
 }
 
-pub(crate) fn has_no_answer(kind: u8) -> bool
-    ensures { result ≡ no_answer kind }
+// The kind as which an action can be shown, if it is known and what is not shown is 0.
+#[tactic(auto, using(crate::proofs::Forms::form_unknown, crate::proofs::Forms::form_known))]
+pub(crate) fn shown_kind(a: Record) -> Option<Kind>
+    ensures { ShownAs a result }
 {
-    kind == 2 || kind == 6
-}
-
-fn address_right(a: Record) -> bool
-    ensures { result ≡ (shows_address a.kind || eqb a.address.0 0) }
-{
-    shows_address(a.kind) || a.address.0 == 0
-}
-
-fn data_right(a: Record) -> bool
-    ensures { result ≡ (shows_data a.kind || eqb a.«data» 0) }
-{
-    a.kind == 2 || a.data == 0
-}
-
-pub(crate) fn is_well_formed(a: Record) -> bool
-    ensures { result ≡ well_formed a }
-{
-    if is_outside(1, 6, a.kind) {
-        return false;
+    let Ok(kind) = Kind::try_from(a.kind) else {
+        return None;
+    };
+    if a.origin.0 == 0 && is_zero_where_hidden(kind, a) {
+        return Some(kind);
     }
-    if a.origin.0 != 0 {
-        return false;
-    }
-    address_right(a) && data_right(a)
+    None
 }

@@ -2,19 +2,23 @@
 #![tactic(auto)]
 
 mod actions;
+mod bytes;
 mod decimal;
 mod events;
 mod form;
-mod hex;
 mod step;
 mod text;
 
 ghost use Rattle.std.specs.Prelude.{◌≤◌};
 ghost use Rattle.report.specs.Text.{Printed};
 ghost use Rattle.report.specs.Hex.{trace_text, trace_text_length};
-ghost use Rattle.report.specs.Events.{account_text, most_account_text};
-ghost use Rattle.report.specs.Actions.{show_text, most_show_text};
+ghost use Rattle.report.specs.Events.{account_said, most_account_text};
+ghost use Rattle.report.specs.Actions.{show_said, most_show_text};
 
+use crate::actions::put_show;
+use crate::bytes::put_trace;
+use crate::events::put_account;
+use crate::text::Text;
 use demands::Counts;
 use lists::reader::MOST_ACTIONS;
 
@@ -26,12 +30,15 @@ pub const TRACE_TEXT: usize = 23;
 // The head, a line for each action, and the account.
 pub const MOST_SHOW_TEXT: usize = 747 + 52 * MOST_ACTIONS + MOST_ACCOUNT_TEXT;
 
-// What program `account` prints of a run: its counts and its account.
-pub fn account_text(counts: Counts, account: &[u8], out: &mut [u8]) -> usize
-    ensures printed { Printed (account_text counts account.now) out.old 0 result out.new }
+// What program `account` prints of a run: its counts and its account, or the number of its refusal, whatever number that is.
+// Kept: a refusal by its number, since what may not change needs it: account_text and show_text print any number, and a Refused would ask more of callers (README names report, so it isn't inner).
+pub fn account_text(said: Result<Counts, u8>, account: &[u8], out: &mut [u8]) -> usize
+    ensures printed { Printed (account_said said account.now) out.old 0 result out.new }
     ensures upper_bound { result ≤ most_account_text }
 {
-    events::put_account(out, 0, counts, account)
+    let mut text = Text::new(out);
+    put_account(&mut text, said, account);
+    text.length()
 }
 
 // The line of a trace's hash.
@@ -39,13 +46,24 @@ pub fn trace_text(hash: u64, out: &mut [u8]) -> usize
     ensures printed { Printed (trace_text hash) out.old 0 result out.new }
     ensures upper_bound { result ≤ trace_text_length }
 {
-    hex::put_trace(out, 0, hash)
+    let mut text = Text::new(out);
+    put_trace(&mut text, hash);
+    text.length()
 }
 
 // What program `show` prints of a run: the list's head, its actions with what came of each, and the account.
-pub fn show_text(list: &[u8], counts: Counts, trace: &[u8], account: &[u8], out: &mut [u8]) -> usize
-    ensures printed { Printed (show_text list.now counts trace.now account.now) out.old 0 result out.new }
+// Kept: a refusal by its number, as in account_text.
+pub fn show_text(
+    list: &[u8],
+    said: Result<Counts, u8>,
+    trace: &[u8],
+    account: &[u8],
+    out: &mut [u8],
+) -> usize
+    ensures printed { Printed (show_said list.now said trace.now account.now) out.old 0 result out.new }
     ensures upper_bound { result ≤ most_show_text }
 {
-    actions::put_show(out, 0, list, counts, trace, account)
+    let mut text = Text::new(out);
+    put_show(&mut text, list, said, trace, account);
+    text.length()
 }

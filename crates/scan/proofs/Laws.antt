@@ -1,73 +1,86 @@
--- Laws of the tests on a list, place by place, and where the parts and the word of a well-formed record stand. Assumes nothing.
+-- What a chain over a slice or the first places of an array answers, and where the parts and the word of a well-formed record stand. Assumes nothing.
 use mathlib.Core.Path.{◌≡◌, refl, sym, ap, ◌∙◌}
 use mathlib.Core.Bool.{Bool, true, false, ◌&&◌, ◌||◌}
-use mathlib.Core.List.{List, [], ◌∷◌, ◌++◌}
-use Prim.Native.Nat.{ℕ, zero, suc, pred, ◌+◌, ◌<◌}
-use native.Mathlib.Nat.{not-suc-le-zero, le_of_suc-le-suc}
-use native.Mathlib.Numerals.{add-one}
+use mathlib.Core.List.{List, [], ◌∷◌}
+use Prim.Native.Nat.{ℕ, suc, pred, ◌<◌}
 use native.Mathlib.Omega.{arith}
-use lib.ListN.{length, take, get_or}
-use lib.Seq.{take-suc}
+use lib.ListN.{take}
+use denote.Ref.{Bor}
+use denote.Param.Members.{Mut}
+use Rattle.std.specs.declared.iter.Take.{Take}
+use Rattle.std.specs.declared.slice.Iter.{Iter}
+use borrow.Author.Tests.{ne_eqb}
+use Rattle.std.specs.Prelude.{Result, Ok, Err, Some, None, is_ok}
+use Rattle.std.specs.Bool.{then_some}
+use Rattle.std.specs.List.{list_all, list_any}
+use Rattle.std.specs.Fn.{Called}
+use Rattle.std.specs.Iterator.{ChecksAll, ChecksAny}
+use Rattle.std.specs.Iterator.Adapters.{take_source, take_count, take_steps}
+use Rattle.std.specs.Slice.Iter.{iter_rest}
+use Rattle.std.proofs.iter.Yields.{fronts}
+use Rattle.std.proofs.lemmas.Iterator.{YieldsList, YieldsList-from_slice, YieldsList-from_take}
+use Rattle.std.proofs.lemmas.Iterator.Consumers.{YieldsList-at}
+use Rattle.std.proofs.lemmas.Iterator.Search.{all_from_yields_List, any_from_yields_List}
 use Rattle.figure.specs.Figure.{Step}
-use Rattle.figure.specs.Refusals.{first_of, most_addresses}
+use Rattle.figure.specs.Refusals.{first_of, pick, sizes_refused, most_addresses}
+use Rattle.figure.specs.Refused.{number_in}
 use Rattle.figure.specs.declared.Record.{Record}
 use Rattle.figure.specs.declared.Sizes.{Sizes}
-use Rattle.figure.proofs.Laws.{and_left, and_right}
+use Rattle.figure.specs.declared.refused.Refused.{Refused}
+use Rattle.figure.proofs.Numbers.{not-none}
 use Rattle.shape.specs.Parts.{any, all}
-use Rattle.shape.specs.Sound.{sound_of}
+use Rattle.shape.specs.Sound.{sound_sizes, sound_of}
 use Rattle.shape.specs.Step.{form_refused}
 use Rattle.shape.specs.declared.Store.{Store}
 use Rattle.shape.proofs.Kept.{Ranged, ranged, sound-parts}
-use Rattle.shape.proofs.Places.{and_both, any-end}
 use Rattle.shape.proofs.Taken.{Asks, asks_r, asks_w, asks_mw, asks_mr, asks_cu, asks_ci, asked}
 use Rattle.scan.specs.Scan.{PlaceIn, WordIn}
 
--- ---- tests
+-- ---- what `xs.iter().take(n)` answers to `all` and to `any`, in shape's words
 
-or-true : (a b : Bool) → b ≡ true → (a || b) ≡ true
-or-true true b h = refl
-or-true false b h = h
+module _ {A : Type 0} (test : A → Bool) where
+  all-listed : (l : List A) → list_all test l ≡ all test l
+  all-listed [] = refl
+  all-listed (x ∷ l) = ap (λ (b : Bool). test x && b) (all-listed l)
 
-and-true : (a : Bool) → a ≡ a && true
-and-true true = refl
-and-true false = refl
+  any-listed : (l : List A) → list_any test l ≡ any test l
+  any-listed [] = refl
+  any-listed (x ∷ l) = ap (λ (b : Bool). test x || b) (any-listed l)
 
-and_assoc : (a b c : Bool) → (a && b) && c ≡ a && (b && c)
-and_assoc true b c = refl
-and_assoc false b c = refl
+-- the chain gives the first n
+firsts : {A : Type 0} {s : Take (Iter A)} {from : Iter A} (n : ℕ) (xs : List A) → take_source s ≡ from → iter_rest from ≡ xs → take_count s ≡ n → YieldsList (take_steps fronts) (λ (y : Bor A). y.now) s (take n xs)
+firsts n xs source rest count = YieldsList-from_take n (YieldsList-at source (YieldsList-from_slice xs rest)) count
 
-module _ {A : Type 0} (p : A → Bool) where
-  -- a search that goes on, and one that ends
-  pub any-more : (i : ℕ) (es : List A) (d : A) → i < length es → any p (take i es) ≡ false → p (get_or es i d) ≡ false → any p (take (i + 1) es) ≡ false
-  any-more i es d h a b = rw (add-one, take-suc es i d, any-end, a) b
+module _ {A F : Type 0} {g : Mut F (Bor A × Unit {0}) Bool} {s : Take (Iter A)} {from : Iter A} {f : F} (test : A → Bool) (n : ℕ) (xs : List A)
+    (source : take_source s ≡ from) (rest : iter_rest from ≡ xs) (count : take_count s ≡ n)
+    (tells : (x : Bor A) (b : Bool) (q : F) → Called g f (x, tt) b q → (q ≡ f) × (b ≡ test x.now)) {r : Bool} (u : Take (Iter A)) where
+  pub all-firsts : ChecksAll (take_steps fronts) g s f r u → r ≡ all test (take n xs)
+  all-firsts ran = all_from_yields_List test u f r ran (firsts n xs source rest count) tells ∙ all-listed test (take n xs)
 
-  pub any-hit : (n i : ℕ) (es : List A) (d : A) → i < n → i < length es → p (get_or es i d) ≡ true → any p (take n es) ≡ true
-  any-hit zero i es d a b h = absurd (not-suc-le-zero a)
-  any-hit (suc n) i [] d a b h = absurd (not-suc-le-zero b)
-  any-hit (suc n) zero (x ∷ xs) d a b h = rw (h)
-  any-hit (suc n) (suc i) (x ∷ xs) d a b h = or-true (p x) _ (any-hit n i xs d (le_of_suc-le-suc a) (le_of_suc-le-suc b) h)
+  pub any-firsts : ChecksAny (take_steps fronts) g s f r u → r ≡ any test (take n xs)
+  any-firsts ran = any_from_yields_List test u f r ran (firsts n xs source rest count) tells ∙ any-listed test (take n xs)
 
-  -- what holds of all of the first n places holds at each of them, and the other way round
-  pub all-at : (n i : ℕ) (es : List A) (d : A) → i < n → i < length es → all p (take n es) ≡ true → p (get_or es i d) ≡ true
-  all-at zero i es d a b h = absurd (not-suc-le-zero a)
-  all-at (suc n) i [] d a b h = absurd (not-suc-le-zero b)
-  all-at (suc n) zero (x ∷ xs) d a b h = and_left (p x) _ h
-  all-at (suc n) (suc i) (x ∷ xs) d a b h = all-at n i xs d (le_of_suc-le-suc a) (le_of_suc-le-suc b) (and_right (p x) _ h)
+-- ---- and over a slice
 
-  pub all-each : (n : ℕ) (es : List A) (d : A) → ((j : ℕ) → j < n → p (get_or es j d) ≡ true) → all p (take n es) ≡ true
-  all-each zero es d h = refl
-  all-each (suc n) [] d h = refl
-  all-each (suc n) (x ∷ xs) d h = and_both (h 0 (omega arith)) (all-each n xs d (λ j b. h (suc j) (omega arith)))
+module _ {A F : Type 0} {g : Mut F (Bor A × Unit {0}) Bool} {s : Iter A} {f : F} (test : A → Bool) (xs : List A) (rest : iter_rest s ≡ xs)
+    (tells : (x : Bor A) (b : Bool) (q : F) → Called g f (x, tt) b q → (q ≡ f) × (b ≡ test x.now)) {r : Bool} (u : Iter A) where
+  pub all-slice : ChecksAll fronts g s f r u → r ≡ all test xs
+  all-slice ran = all_from_yields_List test u f r ran (YieldsList-from_slice xs rest) tells ∙ all-listed test xs
 
-  all_snoc : (l : List A) (x : A) → all p (l ++ (x ∷ [])) ≡ all p l && p x
-  all_snoc [] x = sym (and-true (p x))
-  all_snoc (y ∷ l) x = ap (λ (b : Bool). p y && b) (all_snoc l x) ∙ sym (and_assoc (p y) (all p l) (p x))
+  pub any-slice : ChecksAny fronts g s f r u → r ≡ any test xs
+  any-slice ran = any_from_yields_List test u f r ran (YieldsList-from_slice xs rest) tells ∙ any-listed test xs
 
-  pub all-next : (i : ℕ) (l : List A) (d : A) → i < length l → all p (take (i + 1) l) ≡ all p (take i l) && p (get_or l i d)
-  all-next i l d h = rw (add-one, take-suc l i d h) (all_snoc (take i l) (get_or l i d))
+-- ---- values of the library's types in shape's words
 
-  pub any_next : (i : ℕ) (l : List A) (d : A) → i < length l → any p (take (i + 1) l) ≡ any p (take i l) || p (get_or l i d)
-  any_next i l d h = rw (add-one, take-suc l i d h) (any-end p (take i l) (get_or l i d))
+-- sizes that are not refused
+pub ok-sizes : {A : Type 0} (r : Result A Refused) (z : Sizes) → number_in r ≡ first_of (sizes_refused z) → is_ok r ≡ sound_sizes z
+ok-sizes (Ok a) z h = rw (← h) refl
+ok-sizes (Err e) z h = rw (← h) (sym (ne_eqb _ 0 (not-none e)))
+
+-- a word that is there or not
+pub some-word : (held : Bool) (d : ℕ) → then_some held d ≡ pick held (Some d) None
+some-word true d = refl
+some-word false d = refl
 
 -- ---- a well-formed record names an engine and an address of the store
 

@@ -1,3 +1,2 @@
--- laws that the proofs of several functions cite, and where each turn of a scan leads
+-- laws that the proofs of several functions cite
 pub mod Laws
-pub mod Scans

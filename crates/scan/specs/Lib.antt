@@ -1,2 +1,2 @@
--- what the functions over a lent store answer, and what a scan keeps
+-- what the functions over a lent store answer
 pub mod Scan

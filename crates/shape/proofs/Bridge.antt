@@ -27,13 +27,12 @@ use Rattle.shape.specs.Demand.{Steps, Meets}
 use Rattle.shape.specs.Fresh.{fresh_of, empty_cache, empty_out, empty_in}
 use Rattle.shape.specs.Parts.{out_of, in_of, cached_value, no_out, no_in, no_cache}
 use Rattle.shape.specs.Sound.{sound_of}
-use Rattle.shape.specs.Step.{form_refused, action_of, stepped}
+use Rattle.shape.specs.Step.{form_refused, action_of, stepped, Stepped}
 use Rattle.shape.specs.Trace.{traced}
 use Rattle.shape.specs.View.{out_view, in_view, cache_view, view, step_view}
 use Rattle.shape.specs.declared.Cache.{Cache}
 use Rattle.shape.specs.declared.InQueue.{InQueue}
 use Rattle.shape.specs.declared.OutQueue.{OutQueue}
-use Rattle.shape.specs.declared.Stepped.{Stepped}
 use Rattle.shape.specs.declared.Store.{Store}
 
 -- ---- the step that a record stands for

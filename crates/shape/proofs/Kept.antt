@@ -5,7 +5,7 @@ use mathlib.Core.List.{List, [], ◌∷◌, ◌++◌, tail}
 use Prim.Native.Nat.{ℕ, suc, ◌≤◌, ◌<◌}
 use native.Mathlib.Omega.{arith}
 use lib.Dec.{leb, ltb}
-use lib.ListN.{length, take, length-append}
+use lib.ListN.{length, take, length-append, length-take}
 use lib.Seq.{get_or-take}
 use borrow.Author.Tests.{ltb-false, lt-ltb, leb-true, leb-false, le-leb, eqb-true, eq-eqb, not-false}
 use Rattle.figure.specs.Figure.{Step, R, W, MW, MR, CU, CI}
@@ -15,17 +15,16 @@ use Rattle.figure.specs.declared.Record.{Record}
 use Rattle.figure.specs.declared.Sizes.{Sizes}
 use Rattle.figure.proofs.First.{none_first, first-none, none-split, sizes-numbered}
 use Rattle.figure.proofs.Laws.{and_left, and_right}
-use Rattle.shape.proofs.Places.{and_both, or_left, or_right, all_end, all_tail, all-get_or, all_replicate, all-change, all_map, take-change, take-firsts, length-tail-le, length-take-most, out-with, in-with}
+use Rattle.shape.proofs.Places.{and_both, or_left, or_right, all_end, all_tail, all-get_or, all_replicate, all-change, all_map, take-change, take-firsts, length-tail-le, out-with, in-with}
 use Rattle.shape.proofs.Taken.{Goes, goes_r, goes_w, goes_mw, goes_mr, goes_cu, goes_ci, Answers, takes, keeps, answers}
 use Rattle.shape.specs.Fresh.{fresh_of, zeros, fresh_refused, empty_out, empty_in}
 use Rattle.shape.specs.Parts.{all, any, change, firsts, full, out_of, with_out, out_joined, out_left, in_of, with_in, in_joined, in_left, no_out, no_in, no_out_entry, no_in_entry}
 use Rattle.shape.specs.Sound.{sound_sizes, sound_out_entry, sound_in_entry, sound_out, sound_in, sound_of}
-use Rattle.shape.specs.Step.{out_at, in_at, oldest_out, oldest_in, out_entry, in_entry, memory_at, action_of, effect, stepped}
+use Rattle.shape.specs.Step.{out_at, in_at, oldest_out, oldest_in, out_entry, in_entry, memory_at, action_of, effect, stepped, Stepped}
 use Rattle.shape.specs.declared.InEntry.{InEntry}
 use Rattle.shape.specs.declared.InQueue.{InQueue}
 use Rattle.shape.specs.declared.OutEntry.{OutEntry}
 use Rattle.shape.specs.declared.OutQueue.{OutQueue}
-use Rattle.shape.specs.declared.Stepped.{Stepped}
 use Rattle.shape.specs.declared.Store.{Store}
 
 -- ---- sound sizes: "Engines 1 to 8. Addresses 1 to 64. Depth of every queue 1 to 32."
@@ -81,7 +80,7 @@ module _ (z : Sizes) where
   with-in-sound q l b h = and_both (le-leb (length l) z.depth b) (rw (in-with q l) h)
 
   join-fits : {A : Type 0} (n : ℕ) (es : List A) (x : A) → n < z.depth → length (take n es ++ (x ∷ [])) ≤ z.depth
-  join-fits n es x h = rw (length-append) (omega (arith, length-take-most n es))
+  join-fits n es x h = rw (length-append) (omega (arith, length-take n es))
 
   out-joined-sound : (q : OutQueue) (x : OutEntry) → q.len < z.depth → sound_out z q ≡ true → sound_out_entry z x ≡ true → sound_out z (out_joined x q) ≡ true
   out-joined-sound q x b h e = with-out-sound q (out_of q ++ (x ∷ [])) (join-fits q.len q.entries x b) (all_end (sound_out_entry z) (out_of q) x (and_right (leb q.len z.depth) _ h) e)
@@ -90,7 +89,7 @@ module _ (z : Sizes) where
   in-joined-sound q x b h e = with-in-sound q (in_of q ++ (x ∷ [])) (join-fits q.len q.entries x b) (all_end (sound_in_entry z) (in_of q) x (and_right (leb q.len z.depth) _ h) e)
 
   left-fits : {A : Type 0} (n : ℕ) (es : List A) → leb n z.depth ≡ true → length (tail (take n es)) ≤ z.depth
-  left-fits n es h = length-tail-le (take n es) z.depth (omega (arith, length-take-most n es, leb-true n z.depth h))
+  left-fits n es h = length-tail-le (take n es) z.depth (omega (arith, length-take n es, leb-true n z.depth h))
 
   out-left-sound : (q : OutQueue) → sound_out z q ≡ true → sound_out z (out_left q) ≡ true
   out-left-sound q h = with-out-sound q (tail (out_of q)) (left-fits q.len q.entries (and_left (leb q.len z.depth) _ h))

@@ -12,3 +12,4 @@ pub mod Poor
 pub mod Unused
 pub mod Used
 pub mod Trails
+pub mod Said

@@ -10,6 +10,7 @@ use lib.Dec.{leb}
 use lib.ListN.{length, take, set, get_or}
 use lib.Seq.{get_or-set_same, get_or-set_other}
 use borrow.Author.Tests.{leb-true, ltb-true}
+use Rattle.std.proofs.lemmas.List.{map-append}
 use Rattle.figure.specs.Figure.{upd, up, Engine, Step, W, MW, MR, CU, CI, engine?, next, publish, update, join_in}
 use Rattle.figure.specs.Account.{read, event, held, head_out, head_in}
 use Rattle.figure.specs.Event.{event_view}
@@ -21,7 +22,7 @@ use Rattle.figure.proofs.Respects.{agrees-refl}
 use Rattle.figure.specs.Agree.{Alike, Agrees}
 use Rattle.shape.proofs.Exactly.{out-fits, in-fits}
 use Rattle.shape.proofs.Kept.{Sound, ranged, oldest-sound, oldest-in-sound}
-use Rattle.shape.proofs.Places.{get_or-change-same, get_or-change-other, get_or-firsts-below, map-end, out-with, in-with}
+use Rattle.shape.proofs.Places.{get_or-change-same, get_or-change-other, get_or-firsts-below, out-with, in-with}
 use Rattle.shape.specs.Shaped.{Shaped, CacheShaped}
 use Rattle.shape.proofs.Taken.{Goes, goes_r, goes_w, goes_mw, goes_mr, goes_cu, goes_ci}
 use Rattle.shape.specs.Parts.{change, out_of, out_joined, out_left, in_of, in_joined, in_left, cached, dropped, cached_value, no_out_entry, no_in_entry, no_out, no_in, no_cache}
@@ -37,10 +38,10 @@ use Rattle.shape.specs.declared.Store.{Store}
 -- ---- queues: what joins and what leaves, seen through the view
 
 out-joined-view : (x : OutEntry) (q : OutQueue) → map out_view (out_of (out_joined x q)) ≡ map out_view (out_of q) ++ (out_view x ∷ [])
-out-joined-view x q = ap (map out_view) (out-with q (out_of q ++ (x ∷ []))) ∙ map-end out_view (out_of q) x
+out-joined-view x q = ap (map out_view) (out-with q (out_of q ++ (x ∷ []))) ∙ map-append out_view (out_of q) (x ∷ [])
 
 in-joined-view : (x : InEntry) (q : InQueue) → map in_view (in_of (in_joined x q)) ≡ map in_view (in_of q) ++ (in_view x ∷ [])
-in-joined-view x q = ap (map in_view) (in-with q (in_of q ++ (x ∷ []))) ∙ map-end in_view (in_of q) x
+in-joined-view x q = ap (map in_view) (in-with q (in_of q ++ (x ∷ []))) ∙ map-append in_view (in_of q) (x ∷ [])
 
 out-left-view : (q : OutQueue) → map out_view (out_of (out_left q)) ≡ map out_view (tail (out_of q))
 out-left-view q = ap (map out_view) (out-with q (tail (out_of q)))

@@ -5,10 +5,11 @@ use mathlib.Core.List.{List, [], ◌∷◌, ◌++◌, map, tail}
 use Prim.Native.Nat.{ℕ, zero, suc, ◌+◌, ◌-◌, ◌≤◌, ◌<◌}
 use native.Mathlib.Nat.{not-suc-le-zero, le_of_suc-le-suc}
 use native.Mathlib.Omega.{arith}
-use lib.ListN.{length, take, drop, get_or, replicate, length-append, length-take, length-drop}
+use lib.ListN.{length, take, drop, get_or, replicate, length-append, length-drop}
 use lib.Seq.{take-append_seam, get_or-append-add, get_or-drop}
 use lib.Dec.{ltb}
 use borrow.Author.Tests.{ltb-true, ltb-false}
+pub use Rattle.std.specs.Cmp.Derive.{both_true as and_both}
 use Rattle.figure.proofs.Laws.{and_left, and_right, each}
 use Rattle.shape.specs.Parts.{any, all, over, change, firsts, out_of, with_out, in_of, with_in}
 use Rattle.shape.specs.declared.InEntry.{InEntry}
@@ -17,9 +18,6 @@ use Rattle.shape.specs.declared.OutEntry.{OutEntry}
 use Rattle.shape.specs.declared.OutQueue.{OutQueue}
 
 -- ---- tests
-
-pub and_both : {a b : Bool} → a ≡ true → b ≡ true → a && b ≡ true
-and_both p q = rw (p) q
 
 pub or_left : (a b : Bool) → a || b ≡ false → a ≡ false
 or_left true b e = e
@@ -169,13 +167,6 @@ module _ {A : Type 0} where
   pub length-tail-le : (l : List A) (n : ℕ) → length l ≤ n → length (tail l) ≤ n
   length-tail-le [] n h = h
   length-tail-le (x ∷ l) n h = omega arith
-
-  pub length-take-most : (n : ℕ) (l : List A) → length (take n l) ≤ n
-  length-take-most n l = rw (length-take n l) (omega arith)
-
-  pub map-end : {B : Type 0} (f : A → B) (l : List A) (x : A) → map f (l ++ (x ∷ [])) ≡ map f l ++ (f x ∷ [])
-  map-end f [] x = refl
-  map-end f (y ∷ l) x = ap (λ (r : List _). f y ∷ r) (map-end f l x)
 
 -- ---- what a queue holds once l is put in its place
 

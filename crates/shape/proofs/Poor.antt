@@ -15,9 +15,8 @@ use Rattle.shape.proofs.Shaped.{fresh-shaped}
 use Rattle.shape.specs.Demand.{Steps, Meets}
 use Rattle.shape.specs.Fresh.{fresh_of}
 use Rattle.shape.specs.Sound.{sound_of}
-use Rattle.shape.specs.Step.{form_refused, stepped, step_refused, turn_refused}
+use Rattle.shape.specs.Step.{form_refused, stepped, step_refused, turn_refused, Stepped}
 use Rattle.shape.specs.View.{view}
-use Rattle.shape.specs.declared.Stepped.{Stepped}
 use Rattle.shape.specs.declared.Store.{Store}
 
 -- one engine, one address, depth 1, memory 0: the engine can write, and cannot read

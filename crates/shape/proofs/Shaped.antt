@@ -18,13 +18,12 @@ use Rattle.shape.proofs.Taken.{Goes, goes_r, goes_w, goes_mw, goes_mr, goes_cu, 
 use Rattle.shape.specs.Fresh.{fresh_of, empty_out, empty_in, empty_cache}
 use Rattle.shape.specs.Parts.{any, over, change, firsts, full, out_joined, out_left, in_joined, in_left, cached, dropped, no_in}
 use Rattle.shape.specs.Shaped.{Array, CacheShaped, OutShaped, InShaped, Shaped}
-use Rattle.shape.specs.Step.{out_at, in_at, cache_at, oldest_out, effect, stepped}
+use Rattle.shape.specs.Step.{out_at, in_at, cache_at, oldest_out, effect, stepped, Stepped}
 use Rattle.shape.specs.declared.Cache.{Cache}
 use Rattle.shape.specs.declared.InEntry.{InEntry}
 use Rattle.shape.specs.declared.InQueue.{InQueue}
 use Rattle.shape.specs.declared.OutEntry.{OutEntry}
 use Rattle.shape.specs.declared.OutQueue.{OutQueue}
-use Rattle.shape.specs.declared.Stepped.{Stepped}
 use Rattle.shape.specs.declared.Store.{Store}
 
 module _ {A : Type 0} {n : ℕ} {d : A} {P : A → Type 0} where

@@ -15,8 +15,7 @@ use Rattle.figure.proofs.Laws.{and_left, and_right}
 use Rattle.shape.proofs.Places.{or_right}
 use Rattle.shape.specs.Parts.{own_waits, in_cache}
 use Rattle.shape.specs.Sound.{sound_of}
-use Rattle.shape.specs.Step.{out_at, in_at, cache_at, some_full, form_refused, turn_refused, step_refused, action_of, effect, event_of, answered, stepped}
-use Rattle.shape.specs.declared.Stepped.{Stepped}
+use Rattle.shape.specs.Step.{out_at, in_at, cache_at, some_full, form_refused, turn_refused, step_refused, action_of, effect, event_of, answered, stepped, Stepped}
 use Rattle.shape.specs.declared.Store.{Store}
 
 -- an action with origin 0

@@ -16,14 +16,13 @@ use Rattle.shape.proofs.Kept.{Sound, sound-parts, oldest-sound, oldest-in-sound}
 use Rattle.shape.proofs.Places.{get_or-change-other, get_or-firsts-above, get_or-over-past}
 use Rattle.shape.proofs.Taken.{Goes, goes_r, goes_w, goes_mw, goes_mr, goes_cu, goes_ci, Answers, takes, keeps, answers}
 use Rattle.shape.specs.Parts.{change, firsts, out_of, out_joined, out_left, in_of, in_joined, in_left, cached, dropped, no_out_entry, no_in_entry, no_out, no_in, no_cache}
-use Rattle.shape.specs.Step.{out_at, in_at, cache_at, memory_at, out_entry, in_entry, oldest_out, oldest_in, effect, stepped}
+use Rattle.shape.specs.Step.{out_at, in_at, cache_at, memory_at, out_entry, in_entry, oldest_out, oldest_in, effect, stepped, Stepped}
 use Rattle.shape.specs.Unused.{OutPast, InPast, CachePast, UnusedKept}
 use Rattle.shape.specs.declared.Cache.{Cache}
 use Rattle.shape.specs.declared.InEntry.{InEntry}
 use Rattle.shape.specs.declared.InQueue.{InQueue}
 use Rattle.shape.specs.declared.OutEntry.{OutEntry}
 use Rattle.shape.specs.declared.OutQueue.{OutQueue}
-use Rattle.shape.specs.declared.Stepped.{Stepped}
 use Rattle.shape.specs.declared.Store.{Store}
 
 -- ---- one part

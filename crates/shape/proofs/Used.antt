@@ -20,14 +20,13 @@ use Rattle.shape.specs.Shaped.{Array, CacheShaped, Shaped}
 use Rattle.shape.proofs.Taken.{action, Asks, asks_r, asks_w, asks_mw, asks_mr, asks_cu, asks_ci, asked, Goes, goes_r, goes_w, goes_mw, goes_mr, goes_cu, goes_ci, Answers, takes, keeps, answers}
 use Rattle.shape.specs.Parts.{any, all, change, firsts, full, out_of, out_joined, out_left, in_of, in_joined, in_left, cached, dropped, no_out_entry, no_in_entry, no_out, no_in, no_cache}
 use Rattle.shape.specs.Sound.{sound_sizes, sound_out_entry, sound_in_entry, sound_out, sound_in, sound_of}
-use Rattle.shape.specs.Step.{out_at, in_at, cache_at, memory_at, out_entry, in_entry, oldest_out, oldest_in, form_refused, turn_refused, effect, event_of, filled, with_ins, published, updated, stepped}
+use Rattle.shape.specs.Step.{out_at, in_at, cache_at, memory_at, out_entry, in_entry, oldest_out, oldest_in, form_refused, turn_refused, effect, event_of, filled, with_ins, published, updated, stepped, Stepped}
 use Rattle.shape.specs.Unused.{SameOut, SameIn, SameCache, SameParts, SameUsed, SameAnswer}
 use Rattle.shape.specs.declared.Cache.{Cache}
 use Rattle.shape.specs.declared.InEntry.{InEntry}
 use Rattle.shape.specs.declared.InQueue.{InQueue}
 use Rattle.shape.specs.declared.OutEntry.{OutEntry}
 use Rattle.shape.specs.declared.OutQueue.{OutQueue}
-use Rattle.shape.specs.declared.Stepped.{Stepped}
 use Rattle.shape.specs.declared.Store.{Store}
 
 -- ---- sound or not

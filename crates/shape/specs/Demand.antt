@@ -8,10 +8,9 @@ use Rattle.figure.specs.Refusals.{pick, first_of}
 use Rattle.figure.specs.declared.Record.{Record}
 use Rattle.shape.specs.Shaped.{Shaped}
 use Rattle.shape.specs.Sound.{sound_of}
-use Rattle.shape.specs.Step.{action_of, form_refused}
+use Rattle.shape.specs.Step.{action_of, form_refused, Stepped}
 use Rattle.shape.specs.Trace.{traced}
 use Rattle.shape.specs.View.{view}
-use Rattle.shape.specs.declared.Stepped.{Stepped}
 use Rattle.shape.specs.declared.Store.{Store}
 
 pub record Steps (s : Store) (x : Record) (t : Stepped) : Type 0 where

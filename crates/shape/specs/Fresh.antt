@@ -1,12 +1,13 @@
 -- A fresh store, and its refusals. Assumes nothing.
-use Rattle.std.specs.Prelude.{false, not, List, [], ◌∷◌, ◌++◌, ℕ, zero, suc, eqb, length, replicate}
+use Rattle.std.specs.Prelude.{false, not, List, [], ◌∷◌, ◌++◌, ℕ, zero, suc, eqb, length, replicate, Result, Ok, Err}
 use Rattle.figure.specs.Refusals.{Refusal, ◌when◌, first_of, sizes_refused, most_engines, most_addresses, most_depth}
+use Rattle.figure.specs.Refused.{number_of}
 use Rattle.figure.specs.declared.Sizes.{Sizes}
+use Rattle.figure.specs.declared.refused.Refused.{Refused}
 use Rattle.shape.specs.Parts.{over, no_in_entry, no_out_entry}
 use Rattle.shape.specs.declared.Cache.{Cache}
 use Rattle.shape.specs.declared.InQueue.{InQueue}
 use Rattle.shape.specs.declared.OutQueue.{OutQueue}
-use Rattle.shape.specs.declared.Made.{Made}
 use Rattle.shape.specs.declared.Store.{Store}
 
 abbrev pub empty_cache : Cache
@@ -32,6 +33,16 @@ fresh_of z table =
 -- "a state of zeros"
 abbrev pub zeros : Store
 zeros = fresh_of (record { engines = 0; addresses = 0; depth = 0 }) []
+
+-- a fresh store, or the number of its refusal and zeros
+pub record Made : Type 0 where
+  pub number : ℕ
+  pub store : Store
+
+-- what the call answers, by this paper's number and values
+abbrev pub made_by : Result Store Refused → Made
+made_by (Ok s) = record { number = 0; store = s }
+made_by (Err e) = record { number = number_of e; store = zeros }
 
 -- "Fresh store: 4, 5, 6, then 10, the memory table has not m entries."
 unfoldable pub fresh_refused : Sizes → List ℕ → List Refusal

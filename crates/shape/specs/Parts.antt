@@ -1,6 +1,7 @@
 -- Queues and caches: what they hold, and what is done to them. Assumes nothing.
-use Rattle.std.specs.Prelude.{Bool, true, false, ◌&&◌, ◌||◌, ℕ, zero, suc, eqb, leb, length, take, drop, set, get_or}
+use Rattle.std.specs.Prelude.{Bool, true, false, ◌&&◌, ◌||◌, ℕ, zero, suc, eqb, leb, length, take, drop, set, get_or, Option, Some, None}
 use mathlib.Core.List.{List, [], ◌∷◌, ◌++◌, map, tail}
+use Rattle.figure.specs.Refusals.{pick}
 use Rattle.figure.specs.declared.Address.{Address}
 use Rattle.figure.specs.declared.Engine.{Engine}
 use Rattle.shape.specs.declared.Cache.{Cache}
@@ -79,6 +80,10 @@ in_cache c a = get_or c.present a.0 false
 
 abbrev pub cached_value : Cache → Address → ℕ
 cached_value c a = get_or c.«data» a.0 0
+
+-- the word at a, where it is in the cache
+abbrev pub cached_word : Cache → Address → Option ℕ
+cached_word c a = pick (in_cache c a) (Some (cached_value c a)) None
 
 abbrev pub cached : Address → ℕ → Cache → Cache
 cached a d c = record { present = set c.present a.0 true; «data» = set c.«data» a.0 d }

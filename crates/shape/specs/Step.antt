@@ -1,10 +1,12 @@
 -- The step: its refusals in the table's order, its effect and its event. Assumes nothing.
-use Rattle.std.specs.Prelude.{Bool, not, ◌&&◌, ◌||◌, List, [], ◌∷◌, ◌++◌, ℕ, zero, suc, pred, eqb, leb, take, set, get_or}
+use Rattle.std.specs.Prelude.{Bool, not, ◌&&◌, ◌||◌, List, [], ◌∷◌, ◌++◌, ℕ, zero, suc, pred, eqb, leb, take, set, get_or, Result, Ok, Err}
 use Rattle.figure.specs.Figure.{Step, R, W, MW, MR, CU, CI}
 use Rattle.figure.specs.Record.{no_record}
 use Rattle.figure.specs.Refusals.{Refusal, ◌when◌, pick, first_of, outside}
+use Rattle.figure.specs.Refused.{number_of}
 use Rattle.figure.specs.declared.Record.{Record}
 use Rattle.figure.specs.declared.Sizes.{Sizes}
+use Rattle.figure.specs.declared.refused.Refused.{Refused}
 use Rattle.shape.specs.Parts.{any, change, firsts, out_of, out_joined, out_left, in_of, in_joined, in_left, full, own_waits, in_cache, cached_value, cached, dropped, no_out_entry, no_in_entry, no_out, no_in, no_cache}
 use Rattle.shape.specs.Sound.{sound_of}
 use Rattle.shape.specs.declared.Answer.{Answer}
@@ -13,7 +15,6 @@ use Rattle.shape.specs.declared.InEntry.{InEntry}
 use Rattle.shape.specs.declared.InQueue.{InQueue}
 use Rattle.shape.specs.declared.OutEntry.{OutEntry}
 use Rattle.shape.specs.declared.OutQueue.{OutQueue}
-use Rattle.shape.specs.declared.Stepped.{Stepped}
 use Rattle.shape.specs.declared.Store.{Store}
 
 -- engine i's parts stand at place i - 1
@@ -146,6 +147,12 @@ event_of s x (CI i a) = x
 
 -- ---- the answer
 
+-- what a step answers, with the store after it
+pub record Stepped : Type 0 where
+  pub number : ℕ
+  pub store : Store
+  pub event : Record
+
 -- "A refused step answers with its number, the state it was given, and a record of eight zero bytes."
 abbrev pub answered : ℕ → Store → Record → Stepped
 answered zero s x = record { number = 0; store = effect s (action_of x); event = event_of s x (action_of x) }
@@ -157,3 +164,11 @@ stepped s x = answered (first_of (step_refused s x)) s x
 -- the answer without the store
 abbrev pub answer_of : Stepped → Answer
 answer_of t = record { number = t.number; event = t.event }
+
+-- what a call answers, by this paper's number and values
+abbrev pub answer_by : Result Record Refused → Answer
+answer_by (Ok e) = record { number = 0; event = e }
+answer_by (Err e) = record { number = number_of e; event = no_record }
+
+abbrev pub stepped_by : Store × Result Record Refused → Stepped
+stepped_by p = record { number = (answer_by p.1).number; store = p.0; event = (answer_by p.1).event }

@@ -2,11 +2,10 @@
 use Rattle.std.specs.Prelude.{◌≡◌, true, false, ℕ, suc, ◌≤◌, ◌<◌, get_or}
 use Rattle.figure.specs.declared.Sizes.{Sizes}
 use Rattle.shape.specs.Parts.{out_of, in_of, no_out_entry, no_in_entry}
-use Rattle.shape.specs.Step.{out_at, in_at, cache_at, memory_at}
+use Rattle.shape.specs.Step.{out_at, in_at, cache_at, memory_at, Stepped}
 use Rattle.shape.specs.declared.Cache.{Cache}
 use Rattle.shape.specs.declared.InQueue.{InQueue}
 use Rattle.shape.specs.declared.OutQueue.{OutQueue}
-use Rattle.shape.specs.declared.Stepped.{Stepped}
 use Rattle.shape.specs.declared.Store.{Store}
 
 -- ---- the used places: the first entries of a queue and how many they are, a cache's addresses below m and the values of those present

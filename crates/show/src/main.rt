@@ -1,16 +1,18 @@
 // Reads a list from standard input and prints `refused N`, or its head, its actions with what came of each, and what `account` prints.
 #![tactic(auto)]
 
+use figure::Refused;
 use stream::room::{MOST_ACCOUNT, MOST_HELD, MOST_TRACE};
 use stream::told;
 
+// Kept: as `account` but for the text. One function for both would take it as a closure and its size as a parameter, and need a crate of its own, for eight lines.
 fn main(rt: HostRuntime) {
     let mut list = [0u8; MOST_HELD];
     let got = stream::window::read_full(&mut rt.stdin(), &mut list);
     let mut trace = [0u8; MOST_TRACE];
     let mut account = [0u8; MOST_ACCOUNT];
-    let counts = history::run(&list[..got], &mut trace, &mut account);
+    let said = history::run(&list[..got], &mut trace, &mut account).map_err(Refused::number);
     let mut text = [0u8; report::MOST_SHOW_TEXT];
-    let length = report::show_text(&list[..got], counts, &trace, &account, &mut text);
-    told::text_front(&mut rt.stdout(), &text, length);
+    let length = report::show_text(&list[..got], said, &trace, &account, &mut text);
+    told::text(&mut rt.stdout(), &text[..length]);
 }

@@ -1,59 +1,89 @@
 // Takes each state and action on standard input through the step by value and through the step in place, and prints what they answer.
 #![tactic(auto)]
 
-mod decode;
-mod encode;
-mod event;
-mod layout;
+mod coded;
 
-use layout::{ITEM, STATE};
+use coded::Coded;
+use figure::{ADDRESSES, DEPTH, ENGINES, Record};
+use lists::bytes::{RECORD, WORD, put_record, record_at};
+use shape::Store;
 use std::io::{Read, Write};
+use stream::hash::hash;
 use stream::told;
+use stream::window::{CutShort, read_full};
+
+// How many bytes the memory, a cache, an out queue and an in queue have.
+const MEMORY: usize = WORD * ADDRESSES;
+
+const CACHE: usize = ADDRESSES + MEMORY;
+
+const OUT: usize = 1 + DEPTH * (1 + WORD);
+
+const IN: usize = 1 + DEPTH * (2 + WORD);
+
+// A state is the three sizes, the memory, and the engines' caches and queues. An item is a state and then an action.
+const STATE: usize = 3 + MEMORY + ENGINES * (CACHE + OUT + IN);
+
+const ITEM: usize = STATE + RECORD;
+
+fn state_bytes(s: Store) -> [u8; STATE] {
+    let mut bytes = [0; STATE];
+    let mut room = &mut bytes[..];
+    s.write(&mut room);
+    bytes
+}
+
+// The eight bytes of an event as one number.
+fn event_number(r: Record) -> u64 {
+    let mut bytes = [0; RECORD];
+    put_record(&mut bytes, 0, r);
+    u64::from_be_bytes(bytes)
+}
 
 // A line: the number, the event, a hash of the next state, and whether both steps say the same.
-fn answer<W: Write>(writer: &mut W, item: &[u8]) {
-    let s = decode::state_of(item);
-    let x = lists::bytes::record_at(item, STATE);
-    let by_value = store::step(s, x);
-    let in_place = store::once(s, x);
-    let mut here = [0u8; STATE];
-    let after = by_value.store;
-    encode::put_state(&mut here, after);
-    let mut there = [0u8; STATE];
-    let kept = in_place.store;
-    encode::put_state(&mut there, kept);
-    told::first_number(writer, by_value.number);
-    event::tell(writer, by_value.event);
-    told::hash_front(writer, &here, STATE);
-    told::whether_same(
+fn answer<W: Write>(writer: &mut W, item: &[u8; ITEM]) {
+    let s = Store::read(&mut item.as_slice());
+    let x = record_at(item, STATE);
+    let (after, said) = store::step(s, x);
+    let mut kept = s;
+    let said_in_place = store::step_in_place(&mut kept, x);
+    let state = state_bytes(after);
+    let is_same = said == said_in_place && state == state_bytes(kept);
+    let _ = writeln!(
         writer,
-        by_value.number == in_place.number
-            && event::same(by_value.event, in_place.event)
-            && check::same(&here, &there),
+        "{} {:016x} {:016x} {}",
+        told::number(&said),
+        event_number(said.unwrap_or_default()),
+        hash(&state),
+        told::whether_same(is_same)
     );
-    told::text(writer, b"\n");
 }
 
-// Reads one item and answers it; whether to go on.
-fn answer_next<R: Read, W: Write>(reader: &mut R, writer: &mut W) -> bool {
-    let mut item = [0u8; ITEM];
-    let n = stream::window::read_full(reader, &mut item);
-    if n == ITEM {
+// The next item, where the input does not end before it.
+fn next_item<R: Read>(reader: &mut R) -> Result<Option<[u8; ITEM]>, CutShort> {
+    let mut item = [0; ITEM];
+    match read_full(reader, &mut item) {
+        0 => Ok(None),
+        ITEM => Ok(Some(item)),
+        n => Err(CutShort { missing: ITEM - n }),
+    }
+}
+
+// Kept: a count that no input uses up, since a proved loop has to end and no function may gain a Wait bound.
+// Kept: a loop of its own beside those of `buffers` and `replay`: an item has one length and no count before it, so it is no chunk.
+fn answer_all<R: Read, W: Write>(reader: &mut R, writer: &mut W) -> Result<(), CutShort> {
+    for _ in 0..u64::MAX {
+        let Some(item) = next_item(reader)? else {
+            break;
+        };
         answer(writer, &item);
-        return true;
     }
-    if n != 0 {
-        told::cut_short(writer);
-    }
-    false
+    Ok(())
 }
 
-// A proved loop has to end, and nothing says that the input does: the count is one that no input uses up.
 fn main(rt: HostRuntime) {
-    let mut reader = rt.stdin();
     let mut writer = rt.stdout();
-    let mut items_left = u64::MAX;
-    while items_left > 0 && answer_next(&mut reader, &mut writer) {
-        items_left -= 1;
+    if let Err(e) = answer_all(&mut rt.stdin(), &mut writer) {
+        let _ = writeln!(writer, "{e}");
     }
 }

@@ -1,5 +1,5 @@
--- What a scan of the store has seen decides the step. Assumes nothing.
-use mathlib.Core.Path.{◌≡◌, ap, ◌∙◌}
+-- What the action sees of the store decides the step. Assumes nothing.
+use mathlib.Core.Path.{◌≡◌, ap}
 use mathlib.Core.Bool.{true}
 use Prim.Native.Nat.{ℕ, pred}
 use native.Mathlib.Omega.{arith}
@@ -11,16 +11,16 @@ use Rattle.shape.specs.declared.Store.{Store}
 use Rattle.shape.proofs.Kept.{Ranged, ranged, sound-parts}
 use Rattle.shape.proofs.Taken.{asked}
 use Rattle.decide.specs.Move.{move_of}
-use Rattle.decide.specs.declared.Move.{Move}
+use Rattle.decide.specs.Turned.{Turned}
 use Rattle.decide.specs.Effect.{done, Seen}
 use Rattle.decide.proofs.Effects.{Carries, carries, decides}
-use Rattle.scan.specs.Scan.{PlaceIn, look_of, Scanned, Decided}
-use Rattle.scan.specs.declared.Scan.{Scan}
+use Rattle.decide.specs.declared.Look.{Look}
+use Rattle.scan.specs.Scan.{PlaceIn, Looked, Decided}
 use Rattle.scan.proofs.Laws.{formed-place}
 
-module _ {s : Store} {x : Record} {m : Move} where
-  pub scan-decides : {c : Scan} → Scanned s x c → m ≡ move_of c.first.sizes c.action (look_of c) → Decided s x m
-  scan-decides {c} h w = record { look = look_of c; sound = h.sound; seen = h.seen; is = w ∙ rw (h.sizes, h.action) }
+module _ {s : Store} {x : Record} {m : Turned} where
+  pub look-decides : {l : Look} → Looked s x l → m ≡ move_of s.sizes x l → Decided s x m
+  look-decides {l} h w = record { look = l; sound = h.sound; seen = h.seen; is = w }
 
   -- the move's answer is the step's
   pub said-is : Decided s x m → m.said ≡ answer_of (stepped s x)
@@ -33,7 +33,7 @@ placed s x p h f =
     let n = formed-place (asked s.sizes x f) in
     p.exact (omega (arith, n.0, n.1, r.engines))
 
-module _ {s : Store} {x : Record} {m : Move} (d : Decided s x m) {k : ℕ} (p : PlaceIn x.engine.0 k) where
+module _ {s : Store} {x : Record} {m : Turned} (d : Decided s x m) {k : ℕ} (p : PlaceIn x.engine.0 k) where
   seen-there : sound_of s ≡ true → first_of (form_refused s.sizes x) ≡ 0 → Seen s x k d.look
   seen-there h f = rw (placed s x p h f) (d.seen h f)
 

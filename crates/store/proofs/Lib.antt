@@ -3,5 +3,5 @@ pub mod Laws
 pub mod Steps
 pub mod Deciding
 pub mod Rings
-pub mod Apart
+pub mod Running
 pub mod Turning

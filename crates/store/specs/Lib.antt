@@ -1,2 +1,3 @@
 -- what the inner functions answer: contracts inside the crate cite it, no promise does
 pub mod Pieces
+pub mod Running

@@ -1,104 +1,45 @@
-// Queues and caches by value: what a move makes of each.
-ghost use Rattle.std.specs.Prelude.{◌≡◌, ◌≤◌, ◌<◌};
-ghost use Rattle.figure.specs.Refusals.{most_addresses, most_depth};
-ghost use Rattle.shape.specs.Parts.{out_joined, out_left, in_joined, in_left};
-ghost use Rattle.decide.specs.Effect.{moved_out, left_in, moved_cache};
+// The parts of a store that a run has as they are: how they begin, and what a move makes of a cache where it stands.
+ghost use Rattle.std.specs.Prelude.{◌≡◌, ◌≤◌, ◌<◌, length, replicate};
+ghost use Rattle.figure.specs.Refusals.{most_addresses};
+ghost use Rattle.shape.specs.Parts.{over};
+ghost use Rattle.decide.specs.Turned.{turned_of};
+ghost use Rattle.decide.specs.Effect.{moved_cache};
 
 use decide::Move;
-use shape::{Cache, InEntry, InQueue, OutEntry, OutQueue};
+use figure::{ADDRESSES, Address, Engine};
+use shape::{Cache, InEntry, OutEntry};
 
-fn out_join(q: OutQueue, x: OutEntry) -> OutQueue
-    requires { q.len < most_depth }
-    ensures { result ≡ out_joined x q }
+// What stands in unused places of fresh queues, and a cache that holds no word.
+pub(crate) const NO_WRITE: OutEntry = OutEntry {
+    address: Address(0),
+    data: 0,
+};
+
+pub(crate) const NO_UPDATE: InEntry = InEntry {
+    origin: Engine(0),
+    address: Address(0),
+    data: 0,
+};
+
+pub(crate) const NO_WORDS: Cache = Cache {
+    present: [false; ADDRESSES],
+    data: [0; ADDRESSES],
+};
+
+pub(crate) fn memory_of(table: &[u32]) -> [u32; ADDRESSES]
+    requires { length table.now ≤ most_addresses }
+    ensures { result ≡ over table.now (replicate most_addresses 0) }
 {
-    let n = q.len;
-    let at = n as usize;
-    let mut r = q;
-    r.entries[at] = x;
-    r.len = n + 1;
-    r
+    let mut memory = [0; ADDRESSES];
+    memory[..table.len()].copy_from_slice(table);
+    memory
 }
 
-fn out_leave(q: OutQueue) -> OutQueue
-    requires { (0 < q.len) × (q.len ≤ most_depth) }
-    ensures { result ≡ out_left q }
-{
-    let n = q.len;
-    let last = (n - 1) as usize;
-    let mut r = q;
-    let mut i: usize = 0;
-    while i < last {
-        let x = r.entries[i + 1];
-        r.entries[i] = x;
-        i += 1;
-    }
-    r.len = n - 1;
-    r
-}
-
-pub(crate) fn in_join(q: InQueue, x: InEntry) -> InQueue
-    requires { q.len < most_depth }
-    ensures { result ≡ in_joined x q }
-{
-    let n = q.len;
-    let at = n as usize;
-    let mut r = q;
-    r.entries[at] = x;
-    r.len = n + 1;
-    r
-}
-
-fn in_leave(q: InQueue) -> InQueue
-    requires { (0 < q.len) × (q.len ≤ most_depth) }
-    ensures { result ≡ in_left q }
-{
-    let n = q.len;
-    let last = (n - 1) as usize;
-    let mut r = q;
-    let mut i: usize = 0;
-    while i < last {
-        let x = r.entries[i + 1];
-        r.entries[i] = x;
-        i += 1;
-    }
-    r.len = n - 1;
-    r
-}
-
-pub(crate) fn out_moved(q: OutQueue, m: Move) -> OutQueue
-    requires { (m.out_left ≡ 1 → (0 < q.len) × (q.len ≤ most_depth)) × (m.out_joins ≡ 1 → q.len < most_depth) }
-    ensures { result ≡ moved_out m q }
-{
-    if m.out_left == 1 {
-        return out_leave(q);
-    }
-    if m.out_joins == 1 {
-        let address = m.entry.address;
-        return out_join(
-            q,
-            OutEntry {
-                address,
-                data: m.entry.data,
-            },
-        );
-    }
-    q
-}
-
-pub(crate) fn in_left(q: InQueue, m: Move) -> InQueue
-    requires { m.in_left ≡ 1 → (0 < q.len) × (q.len ≤ most_depth) }
-    ensures { result ≡ left_in m q }
-{
-    if m.in_left == 1 { in_leave(q) } else { q }
-}
-
-pub(crate) fn cache_moved(c: Cache, m: Move) -> Cache
+pub(crate) fn cache_moved(c: &mut Cache, m: Move)
     requires { m.entry.address.0 < most_addresses }
-    ensures { result ≡ moved_cache m c }
+    ensures { c.new ≡ moved_cache (turned_of m) c.old }
 {
-    let a = m.entry.address.0 as usize;
-    let mut r = c;
-    r.present[a] = decide::held(m, c.present[a]);
-    r.data[a] = decide::cached(m, c.data[a]);
-    r
+    let a = usize::from(m.entry.address.0);
+    c.present[a] = m.held(c.present[a]);
+    c.data[a] = m.value(c.data[a]);
 }

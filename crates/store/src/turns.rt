@@ -1,204 +1,168 @@
-// The turns of a run from a fresh store. What the store is made of stands apart, in arrays that one loop holds and alters element by element: passing an
-// array of structs to a function would copy it at every turn. Queues are rings, since no store is handed back whose unused places could tell.
-ghost use Rattle.std.specs.Prelude.{◌≡◌, true, false, ◌+◌, ◌-◌, ◌*◌, ◌%◌, ◌≤◌, ◌<◌, eqb, length, take, replicate};
-ghost use Rattle.figure.specs.Refusals.{first_of, pick, most_engines, most_addresses, most_depth};
-ghost use Rattle.shape.specs.Fresh.{fresh_refused};
-ghost use Rattle.shape.specs.Parts.{any, full, over};
+// The turns of a run from a fresh store, taken over parts that are altered where they stand.
+ghost use Rattle.std.specs.Prelude.{◌≡◌, ◌+◌, ◌≤◌, ◌<◌, replicate, take};
+ghost use Rattle.figure.specs.Refusals.{most_engines, most_depth};
+ghost use Rattle.shape.specs.Fresh.{fresh_of};
+ghost use Rattle.shape.specs.Step.{stepped, answer_of, answer_by};
 ghost use Rattle.shape.specs.Turns.{FreshTurned};
+ghost use Rattle.shape.specs.declared.Store.{Store};
+ghost use Rattle.decide.specs.Turned.{turned_of};
+ghost use Rattle.scan.specs.Scan.{Looked, Decided};
 ghost use Rattle.store.specs.Pieces.{own_after};
-ghost use Rattle.store.specs.declared.turns.Ring.{Ring};
+ghost use Rattle.store.specs.Running.{fresh_side, side_after, Moves, Holds, some_long};
 
-use decide::{Look, Move};
-use figure::{ADDRESSES, Address, DEPTH, ENGINES, Engine, MOST_DEPTH, Sizes};
+use crate::given::Given;
+use crate::parts;
+use crate::queue::{self, Queue};
+use crate::ring::Ring;
+use decide::{Look, Move, Word};
+use figure::{ADDRESSES, ENGINES, Record, Refused, Sizes};
 use lists::bytes::RECORD;
-use shape::{InEntry, OutEntry};
+use shape::{Cache, InEntry, OutEntry};
+use std::array;
 
-// The places of all queues of one side, the place past them, and the words of all caches.
-const PLACES: usize = ENGINES * DEPTH;
-
-const OUTSIDE: usize = PLACES;
-
-const WORDS: usize = ENGINES * ADDRESSES;
-
-// A queue in a ring of 32 places: where its oldest entry stands, and how many there are.
-#[derive(Clone, Copy)]
-pub(crate) struct Ring {
-    pub head: u8,
-    pub len: u8,
+// What a run holds of one engine: its cache, the writes and the updates that wait, and how many of these updates are its own.
+#[derive(Drop)]
+struct Side {
+    cache: Cache,
+    writes: Ring<OutEntry>,
+    updates: Ring<InEntry>,
+    own: u8,
 }
 
-fn ring_left(r: Ring, n: u8) -> Ring
-    requires { (n ≤ r.len) × ((r.head < most_depth) × (n ≤ 1)) }
-    ensures { result ≡ record { head = (r.head + n) % 32; len = r.len - n } }
-{
-    Ring {
-        head: (r.head + n) % MOST_DEPTH,
-        len: r.len - n,
-    }
-}
-
-fn ring_joined(r: Ring, n: u8) -> Ring
-    requires { (r.len ≤ most_depth) × (n ≤ 1) }
-    ensures { result ≡ record { head = r.head; len = r.len + n } }
-{
-    Ring {
-        head: r.head,
-        len: r.len + n,
-    }
-}
-
-// Place p of the ring of engine k + 1, from its oldest entry on.
-fn ring_place(k: usize, r: Ring, p: u8) -> usize
-    requires { k < most_engines }
-    ensures { (result ≡ 32 * k + (r.head + p) % 32) × (result < 256) }
-{
-    DEPTH * k + (r.head as usize + p as usize) % DEPTH
-}
-
-// Where a write joins the out queue; a place past all queues where none does.
-fn joining_place(k: usize, r: Ring, joins: u8) -> usize
-    requires { k < most_engines }
-    ensures { (result ≡ pick (eqb joins 1) (32 * k + (r.head + r.len) % 32) 256) × (result < 257) }
-{
-    if joins == 1 {
-        ring_place(k, r, r.len)
-    } else {
-        OUTSIDE
-    }
-}
-
-// The word at address a of the cache of engine k + 1.
-fn cache_place(k: usize, a: usize) -> usize
-    requires { (k < most_engines) × (a < most_addresses) }
-    ensures { (result ≡ 64 * k + a) × (result < 512) }
-{
-    ADDRESSES * k + a
-}
-
-// Some in queue of the engines 1 to the engine count is full.
-fn some_full(ins: [Ring; ENGINES], z: Sizes) -> bool
-    requires { z.engines ≤ most_engines }
-    ensures { result ≡ any (λ (q : Ring). full z.depth q.len) (take z.engines ins) }
-{
-    let n = z.engines as usize;
-    let mut k: usize = 0;
-    while k < n {
-        let q = ins[k];
-        if z.depth <= q.len {
-            return true;
+impl Side {
+    fn fresh() -> Self
+        ensures { result ≡ fresh_side }
+    {
+        Side {
+            cache: parts::NO_WORDS,
+            writes: Ring::empty(parts::NO_WRITE),
+            updates: Ring::empty(parts::NO_UPDATE),
+            own: 0,
         }
-        k += 1;
     }
-    false
+
+    // What a move makes of the side of engine k + 1 when it is its turn, before the entry joins any in queue.
+    fn moved(&mut self, k: usize, m: Move)
+        requires { Moves (turned_of m) k self.old }
+        ensures { self.new ≡ side_after (turned_of m) k self.old }
+    {
+        queue::out_moved(&mut self.writes, m);
+        queue::in_left(&mut self.updates, m);
+        parts::cache_moved(&mut self.cache, m);
+        self.own = own_after(m, k, self.own);
+    }
 }
 
-// Some in queue is full, where the kind asks.
-fn blocks(kind: u8, ins: [Ring; ENGINES], z: Sizes) -> bool
-    requires { z.engines ≤ most_engines }
-    ensures { kind ≡ 3 → result ≡ any (λ (q : Ring). full z.depth q.len) (take z.engines ins) }
+fn fresh_sides() -> [Side; ENGINES]
+    ensures { result ≡ replicate most_engines fresh_side }
 {
-    if !decide::asks_all(kind) {
-        return false;
-    }
-    some_full(ins, z)
+    array::from_fn(
+        |_| -> Side
+            ensures { result ≡ fresh_side }
+        { Side::fresh() },
+    )
 }
 
 // How many entries of its own wait in the in queue of engine k + 1: one more when its write is published, one less when it takes one of its own.
 fn own_after(m: Move, k: usize, own: u8) -> u8
     requires { (own ≤ most_depth) × (k < most_engines) }
-    ensures { result ≡ own_after m (k + 1) own }
+    ensures { result ≡ own_after (turned_of m) (k + 1) own }
 {
-    if m.word == decide::STORED {
-        return own + 1;
+    if m.word == Word::Stored {
+        own + 1
+    } else if m.in_left && usize::from(m.entry.origin.0) == k + 1 {
+        own.saturating_sub(1)
+    } else {
+        own
     }
-    if m.in_left != 1 {
-        return own;
-    }
-    if m.entry.origin.0 as usize != k + 1 {
-        return own;
-    }
-    if own == 0 { 0 } else { own - 1 }
 }
 
-pub(crate) fn memory_of(table: &[u32]) -> [u32; ADDRESSES]
-    requires { length table.now ≤ most_addresses }
-    ensures { result ≡ over table.now (replicate most_addresses 0) }
-{
-    let mut memory = [0u32; ADDRESSES];
-    let mut i = 0;
-    while i < table.len() {
-        memory[i] = table[i];
-        i += 1;
-    }
-    memory
+// All of a store but the unused places of its queues.
+// Kept: Holds stands in each contract and is no view, since a run forgets what unused places hold: no Store is its value.
+#[derive(Drop)]
+struct Running {
+    sizes: Sizes,
+    memory: [u32; ADDRESSES],
+    sides: [Side; ENGINES],
 }
 
-pub(crate) fn take_turns(z: Sizes, table: &[u32], actions: &[u8], trace: &mut [u8])
-    requires { first_of (fresh_refused z table.now) ≡ 0 }
-    ensures { FreshTurned z table.now actions.now trace.old 0 trace.new }
-{
-    let n = figure::least(actions.len() / RECORD, trace.len() / RECORD);
-    let mut memory = memory_of(table);
-    let mut held = [false; WORDS];
-    let mut cached = [0u32; WORDS];
-    let mut outs = [Ring { head: 0, len: 0 }; ENGINES];
-    let mut ins = [Ring { head: 0, len: 0 }; ENGINES];
-    let mut own = [0u8; ENGINES];
-    let mut out_places = [OutEntry {
-        address: Address(0),
-        data: 0,
-    }; OUTSIDE + 1];
-    let mut in_places = [InEntry {
-        origin: Engine(0),
-        address: Address(0),
-        data: 0,
-    }; PLACES];
-    let mut i = 0;
-    while i < n {
-        let x = lists::bytes::record_at(actions, RECORD * i);
-        let k = scan::place_in(x.engine);
-        let a = scan::word_in(x.address);
-        let c = cache_place(k, a);
-        let o = outs[k];
-        let q = ins[k];
-        let first_out = out_places[ring_place(k, o, 0)];
-        let first_in = in_places[ring_place(k, q, 0)];
-        let l = Look {
-            sound: true,
-            outs: o.len,
-            ins: q.len,
-            first_out,
-            first_in,
-            own: own[k] != 0,
-            blocked: blocks(x.kind, ins, z),
-            held: held[c],
-            cached: cached[c],
-            stored: memory[a],
-        };
-        let m = decide::decide(z, x, l);
-        let entry = m.entry;
-        let address = entry.address;
-        let o = ring_left(o, m.out_left);
-        out_places[joining_place(k, o, m.out_joins)] = OutEntry {
-            address,
-            data: entry.data,
-        };
-        outs[k] = ring_joined(o, m.out_joins);
-        ins[k] = ring_left(q, m.in_left);
-        own[k] = own_after(m, k, own[k]);
-        let mut j = m.from;
-        while j < m.to {
-            let r = ins[j];
-            in_places[ring_place(j, r, r.len)] = entry;
-            ins[j] = ring_joined(r, 1);
-            j += 1;
+// Kept: some_full, look and carry_out stand here and for a Store; one of each for both would be no plainer, since it takes four arrays of either, or a trait that lends an array's element.
+impl Running {
+    fn fresh(given: Given) -> Self
+        ensures { Holds (fresh_of given.entry.sizes given.entry.table.now) result }
+    {
+        Running {
+            sizes: given.sizes,
+            memory: parts::memory_of(given.table),
+            sides: fresh_sides(),
         }
-        let b = scan::word_in(address);
-        memory[b] = decide::stored(m, memory[b]);
-        let c = cache_place(k, b);
-        held[c] = decide::held(m, held[c]);
-        cached[c] = decide::cached(m, cached[c]);
-        lists::bytes::put_record(trace, RECORD * i, decide::traced(m.said));
-        i += 1;
+    }
+
+    // Some in queue of the engines 1 to the engine count is full.
+    fn some_full(&self) -> bool
+        ensures { result ≡ some_long self.now.sizes.depth (take self.now.sizes.engines self.now.sides) }
+    {
+        let depth = self.sizes.depth;
+        let n = usize::from(self.sizes.engines);
+        self.sides
+            .iter()
+            .take(n)
+            .any(|side| depth <= side.updates.len())
+    }
+
+    // What the action sees, as scan::look shows it of the store.
+    fn look(&self, x: Record) -> Look
+        ensures { (s : Store) → Holds s self.now → Looked s x result }
+    {
+        let a = scan::word_in(x.address);
+        let side = &self.sides[scan::place_in(x.engine)];
+        Look {
+            sound: true,
+            outs: side.writes.len(),
+            ins: side.updates.len(),
+            first_out: side.writes.oldest(),
+            first_in: side.updates.oldest(),
+            own: side.own != 0,
+            blocked: decide::asks_all(x.kind) && self.some_full(),
+            cached: side.cache.present[a].then_some(side.cache.data[a]),
+            stored: self.memory[a],
+        }
+    }
+
+    // Each part as the move leaves it, as a store's carry_out does it.
+    fn carry_out(&mut self, x: Record, m: Move)
+        requires { (s : Store) × (Holds s self.old × Decided s x (turned_of m)) }
+        ensures { (s : Store) → Holds s self.old → Decided s x (turned_of m) → Holds (stepped s x).store self.new }
+    {
+        let k = scan::place_in(x.engine);
+        self.sides[k].moved(k, m);
+        let b = scan::word_in(m.entry.address);
+        self.memory[b] = m.stored(self.memory[b]);
+        // all sides first: a part of a field that is an array of structs is not covered
+        let sides = &mut self.sides[..];
+        for side in &mut sides[m.from..m.to] {
+            side.updates.join(m.entry);
+        }
+    }
+
+    // One turn: what the step answers.
+    fn turn(&mut self, x: Record) -> Result<Record, Refused>
+        requires { (s : Store) × Holds s self.old }
+        ensures { (s : Store) → Holds s self.old → (answer_by result ≡ answer_of (stepped s x)) × Holds (stepped s x).store self.new }
+    {
+        let m = decide::decide(self.sizes, x, self.look(x))?;
+        self.carry_out(x, m);
+        Ok(m.event)
+    }
+}
+
+pub(crate) fn take_turns(given: Given, actions: &[u8], trace: &mut [u8])
+    ensures { FreshTurned given.entry.sizes given.entry.table.now actions.now trace.old 0 trace.new }
+{
+    let mut running = Running::fresh(given);
+    // Kept: by index. Tried over actions.chunks_exact and trace.chunks_exact_mut: the return did not close, since of the trace its length is then known and no byte.
+    for i in 0..(actions.len() / RECORD).min(trace.len() / RECORD) {
+        let x = lists::bytes::record_at(actions, RECORD * i);
+        lists::bytes::put_record(trace, RECORD * i, decide::traced(running.turn(x).into()));
     }
 }

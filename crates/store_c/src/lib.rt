@@ -12,5 +12,5 @@ use shape::{Answer, Store};
 pub extern "C" fn step_in_place(s: &mut Store, x: Record) -> Answer
     ensures { (s.new ≡ (stepped s.old x).store) × (result ≡ answer_of (stepped s.old x)) }
 {
-    store::step_in_place(s, x)
+    store::step_in_place(s, x).into()
 }

@@ -1,72 +1,34 @@
 // Chunks of the input: each a 4-byte big-endian count, and then that many bytes.
-ghost use Rattle.std.specs.Prelude.{◌≤◌, length};
-ghost use Rattle.stream.specs.Window.{Inside, InWindow};
+ghost use Rattle.std.specs.Prelude.{◌≡◌, ◌+◌, ◌≤◌, length, IfOk, IfSome};
 
-use crate::window::{Window, hold};
+use crate::window::{CutShort, Window};
 use std::io::Read;
 
 const COUNT: usize = 4;
 
-// A whole chunk came, or the input ended before one, or inside one.
-#[derive(Clone, Copy)]
-pub enum Came {
-    Whole,
-    End,
-    Short,
-}
-
-// A chunk's first bytes, as many as were taken, stand at the start of the window; so many more belong to it, and may not be read yet.
-#[derive(Clone, Copy)]
+// A chunk of so many bytes, of which the first, as many as were taken, stand at the start of the window.
+#[derive(Clone, Copy, Debug, PartialEq, Eq, Drop)]
 pub struct Chunk {
-    pub came: Came,
-    pub window: Window,
+    pub len: usize,
     pub taken: usize,
-    pub rest: usize,
 }
 
-fn none(came: Came) -> Chunk
-    ensures { (result.window.from ≤ 0) × (result.window.to ≤ 0) × (result.taken ≤ 0) }
-{
-    Chunk {
-        came,
-        window: Window { from: 0, to: 0 },
-        taken: 0,
-        rest: 0,
-    }
-}
-
-// The chunk at the start of the window, of which at most so many bytes are taken.
-pub fn next<R: Read>(reader: &mut R, buffer: &mut [u8], w: Window, most: usize) -> Chunk
-    requires { Inside w buffer.old × (4 ≤ length buffer.old) × (most ≤ length buffer.old) }
-    ensures { InWindow result buffer.old }
-{
-    let head = hold(reader, buffer, w, COUNT);
-    let from = head.from;
-    let held = head.to - from;
-    if held == 0 {
-        return none(Came::End);
-    }
-    if held < COUNT {
-        return none(Came::Short);
-    }
-    let count = lists::bytes::get_u32(buffer, from) as usize;
-    let taken = figure::least(count, most);
-    let window = hold(
-        reader,
-        buffer,
-        Window {
-            from: from + COUNT,
-            to: head.to,
-        },
-        taken,
-    );
-    if window.to - window.from < taken {
-        return none(Came::Short);
-    }
-    Chunk {
-        came: Came::Whole,
-        window,
-        taken,
-        rest: count - taken,
+impl<R: Read> Window<'_, R> {
+    // The chunk at the start of the window, of which at most so many bytes are taken. There is none where the input ends before it.
+    pub fn next_chunk(&mut self, most: usize) -> Result<Option<Chunk>, CutShort>
+        requires { (4 ≤ length self.old.buffer.now) × (most ≤ length self.old.buffer.now) }
+        ensures same_room { length self.new.buffer.now ≡ length self.old.buffer.now }
+        ensures held { IfOk result (λ came. IfSome came (λ c. self.new.from + c.taken ≤ self.new.to)) }
+        ensures part { IfOk result (λ came. IfSome came (λ c. c.taken ≤ c.len)) }
+    {
+        if self.hold(COUNT) == 0 {
+            return Ok(None);
+        }
+        self.hold_all(COUNT)?;
+        let len = lists::bytes::get_u32(self.buffer, self.from) as usize;
+        self.from += COUNT;
+        let taken = len.min(most);
+        self.hold_all(taken)?;
+        Ok(Some(Chunk { len, taken }))
     }
 }

@@ -1,19 +1,9 @@
 // The front of a slice.
-ghost use Rattle.std.specs.Prelude.{◌≤◌};
-ghost use Rattle.io.specs.Counts.{IsPrefixLen};
+ghost use Rattle.std.specs.Prelude.{◌≡◌, take};
 
-// How many bytes the front of n bytes has: n, or all where there are fewer. `&b[..r]` then asks for no proof.
-pub fn front(b: &[u8], n: usize) -> usize
-    ensures prefix_len { IsPrefixLen result b.now }
-    ensures upper_bound { result ≤ n }
+// The first n elements, all where there are fewer.
+pub fn front<T>(b: &[T], n: usize) -> &[T]
+    ensures { result.now ≡ take n b.now }
 {
-    figure::least(n, b.len())
-}
-
-// The same of words.
-pub fn front_words(b: &[u32], n: usize) -> usize
-    ensures prefix_len { IsPrefixLen result b.now }
-    ensures upper_bound { result ≤ n }
-{
-    figure::least(n, b.len())
+    &b[..n.min(b.len())]
 }

@@ -14,24 +14,16 @@ pub const MOST_TRACE: usize = RECORD * MOST_ACTIONS;
 
 pub const MOST_ACCOUNT: usize = LINE * MOST_ACTIONS;
 
-// A refused run writes nothing.
-fn written(number: u8, bytes: usize) -> usize
-    ensures { result ≤ bytes }
-{
-    if number == 0 { bytes } else { 0 }
-}
-
-// The bytes of the trace of a list's run, which answered this number. The reader never says more actions than a list has.
-pub fn trace_bytes(list: &[u8], number: u8) -> usize
+// The bytes of the trace of a list's run, none where the reader refuses the list. The reader never says more actions than a list has.
+pub fn trace_bytes(list: &[u8]) -> usize
     ensures { result ≤ most_trace }
 {
-    let actions = lists::reader::read(list).actions;
-    written(number, RECORD * figure::least(actions, MOST_ACTIONS))
+    lists::reader::read(list).map_or(0, |l| RECORD * l.actions.min(MOST_ACTIONS))
 }
 
-// The bytes of the account of a run that answered this number and so many events: a list has no more of them than actions.
-pub fn account_bytes(events: usize, number: u8) -> usize
+// The bytes of the account of a run that answered so many events: a list has no more of them than actions.
+pub fn account_bytes(events: usize) -> usize
     ensures { result ≤ most_account }
 {
-    written(number, LINE * figure::least(events, MOST_ACTIONS))
+    LINE * events.min(MOST_ACTIONS)
 }

@@ -1,46 +1,45 @@
-// The input, read in pieces as large as a lent buffer has room for: the bytes that are held stand at a window of the buffer.
-ghost use Rattle.std.specs.Prelude.{◌≡◌, ◌+◌, ◌-◌, ◌≤◌, length};
+// The input, read in pieces as large as a lent buffer has room for.
+ghost use Rattle.std.specs.Prelude.{◌≡◌, ◌+◌, ◌-◌, ◌≤◌, length, slice_range, IfOk, Some, codes};
 ghost use Rattle.io.specs.Counts.{IsPrefixLen};
-ghost use Rattle.stream.specs.Window.{Inside};
 
+use std::error::Error;
+use std::fmt;
 use std::io::Read;
 
-#[derive(Clone, Copy)]
-pub struct Window {
+// The bytes that are held of the input stand in the buffer, from one place up to another.
+// Kept: a lent buffer and two places in it, since there is no heap for a BufReader.
+// Kept: that the buffer keeps its length stands in each contract: a ghost field states a fact and holds no number, and a `[u8; N]` in place of the slice would ask more of callers (README names this crate, so it isn't inner).
+#[derive(Drop)]
+pub struct Window<'a, R> {
+    reader: &'a mut R,
+    pub buffer: &'a mut [u8],
     pub from: usize,
     pub to: usize,
+    pub ghost order: { from ≤ to },
+    pub ghost inside: { to ≤ length buffer.now },
 }
 
-// The window past the bytes that were dropped, and how many more the input did not have.
-#[derive(Clone, Copy)]
-pub struct Dropped {
-    pub window: Window,
+// The input ended inside what was asked for: so many bytes more it did not have.
+#[derive(Clone, Copy, Debug, PartialEq, Eq, Drop)]
+pub struct CutShort {
     pub missing: usize,
 }
 
-// Moves the bytes that are held to the buffer's start; how many they are.
-fn slide(buffer: &mut [u8], w: Window) -> usize
-    requires { Inside w buffer.old }
-    ensures { result ≡ w.to - w.from }
-{
-    let from = w.from;
-    let held = w.to - from;
-    let mut i = 0;
-    while i < held {
-        buffer[i] = buffer[from + i];
-        i += 1;
+impl fmt::Display for CutShort {
+    ghost output = { λ _. Some (codes "cut short") };
+
+    fn fmt<W: fmt::Write>(&self, f: &mut fmt::Formatter<W>) -> fmt::Result {
+        write!(f, "cut short")
     }
-    held
 }
+
+impl Error for CutShort {}
 
 // One read into the buffer's start; how many bytes came. A read that fails counts as the input's end.
 fn read_some<R: Read>(reader: &mut R, buffer: &mut [u8]) -> usize
     ensures { IsPrefixLen result buffer.new }
 {
-    match reader.read(buffer) {
-        Ok(n) => n,
-        Err(_) => 0,
-    }
+    reader.read(buffer).unwrap_or(0)
 }
 
 // Reads until the buffer is full or the input ends; how many bytes stand at the buffer's start.
@@ -48,55 +47,100 @@ pub fn read_full<R: Read>(reader: &mut R, buffer: &mut [u8]) -> usize
     ensures { IsPrefixLen result buffer.new }
 {
     let room = buffer.len();
-    read_on(reader, buffer, 0, room)
+    Window::new(reader, buffer).hold(room)
 }
 
-// Reads past the bytes that are held, until there are as many as needed or the input ends.
-fn read_on<R: Read>(reader: &mut R, buffer: &mut [u8], held: usize, need: usize) -> usize
-    requires { (held ≤ length buffer.old) × (need ≤ length buffer.old) }
-    ensures { result ≤ length buffer.old }
-{
-    let mut to = held;
-    while to < need {
-        let n = read_some(reader, &mut buffer[to..]);
-        if n == 0 {
-            return to;
+impl<'a, R: Read> Window<'a, R> {
+    // Nothing is held yet.
+    pub fn new(reader: &'a mut R, buffer: &'a mut [u8]) -> Window<'a, R>
+        ensures same_room { length result.buffer.now ≡ length buffer.old }
+        ensures empty { result.to ≡ result.from }
+    {
+        Window {
+            reader,
+            buffer,
+            from: 0,
+            to: 0,
         }
-        to += n;
     }
-    to
-}
 
-// A window of as many bytes as needed, or of all that are left where the input ends.
-pub fn hold<R: Read>(reader: &mut R, buffer: &mut [u8], w: Window, need: usize) -> Window
-    requires { Inside w buffer.old × (need ≤ length buffer.old) }
-    ensures { Inside result buffer.old }
-{
-    if need <= w.to - w.from {
-        return w;
+    // The bytes that are held.
+    pub fn held(&self) -> &[u8]
+        ensures { result.now ≡ slice_range self.now.buffer.now self.now.from self.now.to }
+    {
+        &self.buffer[self.from..self.to]
     }
-    let held = slide(buffer, w);
-    Window {
-        from: 0,
-        to: read_on(reader, buffer, held, need),
-    }
-}
 
-// The window past so many bytes, which need not fit into the buffer.
-pub fn drop_bytes<R: Read>(reader: &mut R, buffer: &mut [u8], w: Window, count: usize) -> Dropped
-    requires { Inside w buffer.old × (1 ≤ length buffer.old) }
-    ensures { Inside result.window buffer.old }
-{
-    let mut window = w;
-    let mut missing = count;
-    while missing > 0 {
-        window = hold(reader, buffer, window, 1);
-        let n = figure::least(missing, window.to - window.from);
-        if n == 0 {
-            return Dropped { window, missing };
+    // Moves the bytes that are held to the buffer's start.
+    fn slide(&mut self)
+        ensures same_room { length self.new.buffer.now ≡ length self.old.buffer.now }
+        ensures at_start { self.new.from ≡ 0 }
+    {
+        let held = self.to - self.from;
+        self.buffer.copy_within(self.from..self.to, 0);
+        self.from = 0;
+        self.to = held;
+    }
+
+    // Reads until what is held ends at that place of the buffer, or the input ends.
+    fn read_to(&mut self, end: usize)
+        requires { end ≤ length self.old.buffer.now }
+        ensures same_room { length self.new.buffer.now ≡ length self.old.buffer.now }
+        ensures same_start { self.new.from ≡ self.old.from }
+    {
+        // Kept: each turn adds what one read brought, so there is no count that a range or an iterator could take over.
+        while self.to < end {
+            let n = read_some(self.reader, &mut self.buffer[self.to..]);
+            if n == 0 {
+                break;
+            }
+            self.to += n;
         }
-        window.from = window.from + n;
-        missing -= n;
     }
-    Dropped { window, missing }
+
+    // Holds as many bytes as needed, or all that are left where the input ends; how many are held.
+    pub fn hold(&mut self, need: usize) -> usize
+        requires { need ≤ length self.old.buffer.now }
+        ensures same_room { length self.new.buffer.now ≡ length self.old.buffer.now }
+        ensures held { result ≡ self.new.to - self.new.from }
+    {
+        if self.to - self.from < need {
+            self.slide();
+            self.read_to(need);
+        }
+        self.to - self.from
+    }
+
+    // Holds so many bytes.
+    pub(crate) fn hold_all(&mut self, count: usize) -> Result<(), CutShort>
+        requires { count ≤ length self.old.buffer.now }
+        ensures same_room { length self.new.buffer.now ≡ length self.old.buffer.now }
+        ensures held { IfOk result (λ _. self.new.from + count ≤ self.new.to) }
+    {
+        let held = self.hold(count);
+        if held < count {
+            return Err(CutShort {
+                missing: count - held,
+            });
+        }
+        Ok(())
+    }
+
+    // Drops so many bytes, which need not fit into the buffer.
+    pub fn drop_bytes(&mut self, count: usize) -> Result<(), CutShort>
+        requires { 1 ≤ length self.old.buffer.now }
+        ensures { length self.new.buffer.now ≡ length self.old.buffer.now }
+    {
+        let mut missing = count;
+        // Kept: each turn takes away what is held, so there is no count that a range or an iterator could take over.
+        while missing > 0 {
+            let n = self.hold(1).min(missing);
+            if n == 0 {
+                return Err(CutShort { missing });
+            }
+            self.from += n;
+            missing -= n;
+        }
+        Ok(())
+    }
 }

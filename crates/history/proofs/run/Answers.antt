@@ -1,27 +1,19 @@
 use Rattle.std.proofs.Common.{arith, []}
-use Rattle.history.proofs.Answers.{ran-reader, ran-29, taken, actions-few}
+use Rattle.std.proofs.lemmas.Result.{err_from_is_err_and}
+use Rattle.history.proofs.Answers.{ran-reader, ran-29, actions-few}
 use Rattle.history.proofs.run.Goals as goal
 
-pub returns-then-number-ne0 : goal.returns-then-number-ne0
-returns-then-number-ne0 c =
-    let a = c.args in
-    ran-reader a.list.now a.trace.now a.account.now c.read-l.result c.read-l.ensures c.if-number-ne0.true c.refused.result c.refused.ensures
+pub returns-in_err-l : goal.returns-in_err-l
+returns-in_err-l c =
+    let e = c.in_err-l.field-0.0 in
+    let p = err_from_is_err_and c.from_residual.result c.from_residual.ensures.1 in
+    rw (p.1, p.2) (ran-reader c.args.list.now c.args.trace.now c.args.account.now e c.in_err-l.ensures)
 
-pub overflow_mul-n : goal.overflow_mul-n
-overflow_mul-n c = omega (arith, actions-few c.args.list.now [] [] c.read-l.result c.read-l.ensures c.if-number-ne0.false)
+pub overflow_mul-l : goal.overflow_mul-l
+overflow_mul-l c = omega (arith, actions-few c.args.list.now [] [] c.in_ok-l.l c.in_ok-l.ensures)
 
-pub returns-then-trace-n : goal.returns-then-trace-n
-returns-then-trace-n c =
-    let a = c.args in
-    ran-29 a.list.now a.trace.now a.account.now c.read-l.result c.read-l.ensures c.if-number-ne0.false c.if-trace-n.true c.refused-then-trace-n.result c.refused-then-trace-n.ensures
+pub returns-then-trace-l : goal.returns-then-trace-l
+returns-then-trace-l c = ran-29 c.args.list.now c.args.trace.now c.args.account.now c.in_ok-l.l c.in_ok-l.ensures c.if-trace-l.true
 
--- past the reader's refusals and 29
-pub run_sized-requires : goal.run_sized-requires
-run_sized-requires c = (
-  record {
-    layout = c.read-l.ensures;
-    taken = taken c.args.list.now [] [] c.read-l.result c.read-l.ensures c.if-number-ne0.false;
-    room = c.if-trace-n.false;
-  },
-  actions-few c.args.list.now [] [] c.read-l.result c.read-l.ensures c.if-number-ne0.false,
-)
+pub run_in-requires-in_default-clause-fits : goal.run_in-requires-in_default-clause-fits
+run_in-requires-in_default-clause-fits c = actions-few c.args.list.now [] [] c.in_ok-l.l c.in_ok-l.ensures

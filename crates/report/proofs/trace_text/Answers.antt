@@ -1,9 +1,15 @@
-use Rattle.std.proofs.Common.{arith}
+use Rattle.std.proofs.Common.{rules, arith}
+use Rattle.report.specs.Hex.{trace_text}
 use Rattle.report.proofs.Bounds.{length-trace-text}
+use Rattle.report.proofs.Cursor.{ends, printed}
 use Rattle.report.proofs.trace_text.Goals as goal
 
-pub put_trace-requires : goal.put_trace-requires
-put_trace-requires c = record { fits = omega (arith, length-trace-text c.args.hash) }
+pub returns-clause-printed : goal.returns-clause-printed
+returns-clause-printed c =
+    let long = length-trace-text c.args.hash in
+    rw c.length.ensures (printed _ c.args.out _ c.new-text.result c.put_trace.new.to (omega (arith, long)) c.new-text.ensures c.put_trace.ensures _ (search rules))
 
 pub returns-clause-upper_bound : goal.returns-clause-upper_bound
-returns-clause-upper_bound c = omega (arith, c.put_trace.ensures.place, length-trace-text c.args.hash)
+returns-clause-upper_bound c =
+    let long = length-trace-text c.args.hash in
+    omega (arith, long, c.length.ensures, ends (trace_text c.args.hash) c.args.out _ c.new-text.result c.put_trace.new.to (omega (arith, long)) c.new-text.ensures c.put_trace.ensures)

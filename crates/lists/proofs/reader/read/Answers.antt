@@ -1,89 +1,114 @@
--- At each `return` the tests that led there say which refusal is the first that applies (`Refused`).
-use Rattle.std.proofs.Common.{◌≡◌, ◌≤◌, ◌-◌, ◌*◌, ◌/◌, ◌%◌, ℕ, List, length, refl, sym, ◌∙◌}
+-- At each `return` the tests that led there say which refusal is the first that applies.
+use Rattle.std.proofs.Common.{◌≡◌, ◌<◌, ◌≤◌, ◌-◌, ◌*◌, ◌/◌, ◌%◌, ℕ, List, length, length-drop, length-take-le, take, drop, arith, refl, sym, ◌∙◌}
 use borrow.Author.Tests.{lt-ltb, le-ltb}
-use Rattle.figure.specs.Refusals.{most_actions}
+use Rattle.std.proofs.lemmas.Result.{err_from_is_err_and}
+use Rattle.figure.specs.Refused.{number_of}
+use Rattle.figure.specs.Refusals.{first_of, sizes_refused, most_actions}
 use Rattle.figure.proofs.First.{Passed, passed-more, same_not, other-not}
-use Rattle.lists.specs.Bytes.{u32_at}
+use Rattle.figure.proofs.Numbers.{not-none}
+use Rattle.lists.specs.Bytes.{word_width, u32_at}
 use Rattle.lists.specs.Record.{record_width}
-use Rattle.lists.specs.Read.{version, header_width, version_at, sizes_at, after_header, after_memory, read_refused, layout_of}
+use Rattle.lists.specs.Read.{version, header_width, version_at, sizes_at, after_header, after_memory, read_refused, refused_as, taken_as, layout_of, read_of}
 use Rattle.lists.proofs.Refused.{lengths_refused, read_at, read-sizes, read-lengths}
 use Rattle.lists.proofs.reader.read.Goals as goal
 
--- what has passed where a test was left
-passed-1 : (s : List ℕ) → header_width ≤ length s → Passed 1 (read_refused s)
-unfolding read_refused
-passed-1 s h = passed-more 0 (read_refused s) tt (le-ltb (length s) header_width h)
+module _ (s : List ℕ) where
+  short : length s < header_width → refused_as 1 ≡ read_of s
+  unfolding read_refused layout_of
+  short h = read_at s 0 tt (lt-ltb (length s) header_width h)
 
-passed-2 : (s : List ℕ) → header_width ≤ length s → u32_at s 0 ≡ length s - 4 → Passed 2 (read_refused s)
-unfolding read_refused
-passed-2 s h said = passed-more 1 (read_refused s) (passed-1 s h) (same_not (u32_at s 0) (length s - 4) said)
+  module _ (long : header_width ≤ length s) where
+    passed-1 : Passed 1 (read_refused s)
+    unfolding read_refused
+    passed-1 = passed-more 0 (read_refused s) tt (le-ltb (length s) header_width long)
 
-passed-3 : (s : List ℕ) → header_width ≤ length s → u32_at s 0 ≡ length s - 4 → version_at s ≡ version → Passed 3 (read_refused s)
-unfolding read_refused
-passed-3 s h said v = passed-more 2 (read_refused s) (passed-2 s h said) (same_not (version_at s) version v)
+    other-length : ¬ (u32_at s 0 ≡ length s - word_width) → refused_as 2 ≡ read_of s
+    unfolding read_refused layout_of
+    other-length h = read_at s 1 passed-1 (other-not (u32_at s 0) (length s - word_width) h)
 
-passed-7 : (s : List ℕ) → 4 * (sizes_at s).addresses ≤ after_header s → Passed 1 (lengths_refused s)
-passed-7 s h = passed-more 0 (lengths_refused s) tt (le-ltb (after_header s) (4 * (sizes_at s).addresses) h)
+    module _ (said : u32_at s 0 ≡ length s - word_width) where
+      passed-2 : Passed 2 (read_refused s)
+      unfolding read_refused
+      passed-2 = passed-more 1 (read_refused s) passed-1 (same_not (u32_at s 0) (length s - word_width) said)
 
-passed-8 : (s : List ℕ) → 4 * (sizes_at s).addresses ≤ after_header s → after_memory s % record_width ≡ 0 → Passed 2 (lengths_refused s)
-passed-8 s h even = passed-more 1 (lengths_refused s) (passed-7 s h) (same_not (after_memory s % record_width) 0 even)
+      other-version : ¬ (version_at s ≡ version) → refused_as 3 ≡ read_of s
+      unfolding read_refused layout_of
+      other-version h = read_at s 2 passed-2 (other-not (version_at s) version h)
 
-passed-9 : (s : List ℕ) → 4 * (sizes_at s).addresses ≤ after_header s → after_memory s % record_width ≡ 0 → after_memory s / record_width ≤ most_actions → Passed 3 (lengths_refused s)
-passed-9 s h even few = passed-more 2 (lengths_refused s) (passed-8 s h even) (le-ltb most_actions (after_memory s / record_width) few)
+      module _ (same : version_at s ≡ version) where
+        passed-3 : Passed 3 (read_refused s)
+        unfolding read_refused
+        passed-3 = passed-more 2 (read_refused s) passed-2 (same_not (version_at s) version same)
 
-pub returns-then-total-lt-HEADER : goal.returns-then-total-lt-HEADER
-unfolding read_refused layout_of
-returns-then-total-lt-HEADER c =
-    let s = c.args.s.now in
-    c.refused.ensures ∙ read_at s 0 tt (lt-ltb (length s) header_width c.if-total-lt-HEADER.true)
+        other-sizes : (n : ℕ) → n ≡ first_of (sizes_refused (sizes_at s)) → ¬ (n ≡ 0) → refused_as n ≡ read_of s
+        other-sizes = read-sizes s passed-3
 
-pub returns-then-said-total : goal.returns-then-said-total
-unfolding read_refused layout_of
-returns-then-said-total c =
-    let s = c.args.s.now in
-    c.refused-then-said-total.ensures
-    ∙ read_at s 1 (passed-1 s c.if-total-lt-HEADER.false) (other-not (u32_at s 0) (length s - 4) (λ e. c.if-said-total.true (c.get_u32-said.ensures ∙ e)))
+        module _ (sized : 0 ≡ first_of (sizes_refused (sizes_at s))) where
+          memory-cut : after_header s < word_width * (sizes_at s).addresses → refused_as 7 ≡ read_of s
+          unfolding layout_of
+          memory-cut h = read-lengths s passed-3 (sym sized) 0 tt (lt-ltb (after_header s) (word_width * (sizes_at s).addresses) h)
 
-pub returns-then-s-ne-VERSION : goal.returns-then-s-ne-VERSION
-unfolding read_refused layout_of
-returns-then-s-ne-VERSION c =
-    let s = c.args.s.now in
-    c.refused-then-s-ne-VERSION.ensures
-    ∙ read_at s 2 (passed-2 s c.if-total-lt-HEADER.false (sym c.get_u32-said.ensures ∙ c.if-said-total.false)) (other-not (version_at s) version c.if-s-ne-VERSION.true)
+          module _ (room : word_width * (sizes_at s).addresses ≤ after_header s) where
+            passed-7 : Passed 1 (lengths_refused s)
+            passed-7 = passed-more 0 (lengths_refused s) tt (le-ltb (after_header s) (word_width * (sizes_at s).addresses) room)
 
-pub returns-then-outside-ne0 : goal.returns-then-outside-ne0
-returns-then-outside-ne0 c =
-    let s = c.args.s.now in
-    c.refused-then-outside-ne0.ensures
-    ∙ read-sizes s (passed-3 s c.if-total-lt-HEADER.false (sym c.get_u32-said.ensures ∙ c.if-said-total.false) c.if-s-ne-VERSION.false) c.judge_sizes-outside.result c.judge_sizes-outside.ensures c.if-outside-ne0.true
+            action-cut : ¬ (after_memory s % record_width ≡ 0) → refused_as 8 ≡ read_of s
+            unfolding layout_of
+            action-cut h = read-lengths s passed-3 (sym sized) 1 passed-7 (other-not (after_memory s % record_width) 0 h)
 
-pub returns-then-rest-m : goal.returns-then-rest-m
-unfolding layout_of
-returns-then-rest-m c =
-    let s = c.args.s.now in
-    let past = passed-3 s c.if-total-lt-HEADER.false (sym c.get_u32-said.ensures ∙ c.if-said-total.false) c.if-s-ne-VERSION.false in
-    c.refused-then-rest-m.ensures
-    ∙ read-lengths s past (sym c.judge_sizes-outside.ensures ∙ c.if-outside-ne0.false) 0 tt (lt-ltb (after_header s) (4 * (sizes_at s).addresses) c.if-rest-m.true)
+            module _ (even : after_memory s % record_width ≡ 0) where
+              passed-8 : Passed 2 (lengths_refused s)
+              passed-8 = passed-more 1 (lengths_refused s) passed-7 (same_not (after_memory s % record_width) 0 even)
+
+              too-many : most_actions < after_memory s / record_width → refused_as 9 ≡ read_of s
+              unfolding layout_of
+              too-many h = read-lengths s passed-3 (sym sized) 2 passed-8 (lt-ltb most_actions (after_memory s / record_width) h)
+
+              none-applies : after_memory s / record_width ≤ most_actions → taken_as s ≡ read_of s
+              unfolding layout_of
+              none-applies h =
+                  read-lengths s passed-3 (sym sized) 3 (passed-more 2 (lengths_refused s) passed-8 (le-ltb most_actions (after_memory s / record_width) h)) refl
+
+-- what stands after the header, and what is left of it after the memory values
+length-rest : (s : List ℕ) → length (take (length s - header_width) (drop header_width s)) ≡ after_header s
+length-rest s = length-take-le (length s - header_width) (drop header_width s) (omega (arith, length-drop header_width s))
+
+left : (s : List ℕ) {m l : ℕ} → m ≡ (sizes_at s).addresses → (word_width * m ≤ length (take (length s - header_width) (drop header_width s))) × (l ≡ length (take (length s - header_width) (drop header_width s)) - word_width * m) → (word_width * (sizes_at s).addresses ≤ after_header s) × (l ≡ after_memory s)
+left s e h = rw (e, length-rest s) at h
+
+pub returns-in_default : goal.returns-in_default
+returns-in_default c = short c.args.s.now c.in_default.len_below
+
+pub returns-then-get_u32-s : goal.returns-then-get_u32-s
+returns-then-get_u32-s c =
+    other-length c.args.s.now c.in-len8-up.len_at_least (λ e. c.if-get_u32-s.true (c.get_u32.ensures ∙ e))
+
+pub returns-then-version-ne-VERSION : goal.returns-then-version-ne-VERSION
+returns-then-version-ne-VERSION c =
+    other-version c.args.s.now c.in-len8-up.len_at_least (sym c.get_u32.ensures ∙ c.if-get_u32-s.false) c.if-version-ne-VERSION.true
+
+pub returns-in_err-judge_sizes : goal.returns-in_err-judge_sizes
+returns-in_err-judge_sizes c =
+    let e = c.in_err-judge_sizes.field-0.0 in
+    let p = err_from_is_err_and c.from_residual.result c.from_residual.ensures.1 in
+    rw (p.1, p.2) (other-sizes c.args.s.now c.in-len8-up.len_at_least (sym c.get_u32.ensures ∙ c.if-get_u32-s.false) c.if-version-ne-VERSION.false (number_of e) c.in_err-judge_sizes.ensures (not-none e))
+
+pub returns-in_default-checked_sub : goal.returns-in_default-checked_sub
+returns-in_default-checked_sub c =
+    memory-cut c.args.s.now c.in-len8-up.len_at_least (sym c.get_u32.ensures ∙ c.if-get_u32-s.false) c.if-version-ne-VERSION.false c.in_ok-judge_sizes.ensures (omega (arith, length-rest c.args.s.now, c.from-memory.ensures, c.in_default-checked_sub.ensures))
 
 pub returns-then-left-ne0 : goal.returns-then-left-ne0
-unfolding layout_of
 returns-then-left-ne0 c =
-    let s = c.args.s.now in
-    let past = passed-3 s c.if-total-lt-HEADER.false (sym c.get_u32-said.ensures ∙ c.if-said-total.false) c.if-s-ne-VERSION.false in
-    c.refused-then-left-ne0.ensures
-    ∙ read-lengths s past (sym c.judge_sizes-outside.ensures ∙ c.if-outside-ne0.false) 1 (passed-7 s c.if-rest-m.false) (other-not (after_memory s % record_width) 0 c.if-left-ne0.true)
+    let l = left c.args.s.now c.from-memory.ensures c.in-Some.ensures in
+    action-cut c.args.s.now c.in-len8-up.len_at_least (sym c.get_u32.ensures ∙ c.if-get_u32-s.false) c.if-version-ne-VERSION.false c.in_ok-judge_sizes.ensures l.0 (rw l.1 at c.if-left-ne0.true)
 
 pub returns-then-actions-gt-MOST_ACTIONS : goal.returns-then-actions-gt-MOST_ACTIONS
-unfolding layout_of
 returns-then-actions-gt-MOST_ACTIONS c =
-    let s = c.args.s.now in
-    let past = passed-3 s c.if-total-lt-HEADER.false (sym c.get_u32-said.ensures ∙ c.if-said-total.false) c.if-s-ne-VERSION.false in
-    c.refused-then-actions-gt-MOST_ACTIONS.ensures
-    ∙ read-lengths s past (sym c.judge_sizes-outside.ensures ∙ c.if-outside-ne0.false) 2 (passed-8 s c.if-rest-m.false c.if-left-ne0.false) (lt-ltb most_actions (after_memory s / record_width) c.if-actions-gt-MOST_ACTIONS.true)
+    let l = left c.args.s.now c.from-memory.ensures c.in-Some.ensures in
+    too-many c.args.s.now c.in-len8-up.len_at_least (sym c.get_u32.ensures ∙ c.if-get_u32-s.false) c.if-version-ne-VERSION.false c.in_ok-judge_sizes.ensures l.0 (rw l.1 at c.if-left-ne0.false) (rw l.1 at c.if-actions-gt-MOST_ACTIONS.true)
 
 pub returns : goal.returns
-unfolding layout_of
 returns c =
-    let s = c.args.s.now in
-    let past = passed-3 s c.if-total-lt-HEADER.false (sym c.get_u32-said.ensures ∙ c.if-said-total.false) c.if-s-ne-VERSION.false in
-    read-lengths s past (sym c.judge_sizes-outside.ensures ∙ c.if-outside-ne0.false) 3 (passed-9 s c.if-rest-m.false c.if-left-ne0.false c.if-actions-gt-MOST_ACTIONS.false) refl
+    let l = left c.args.s.now c.from-memory.ensures c.in-Some.ensures in
+    rw (l.1, c.from-memory.ensures)
+    (none-applies c.args.s.now c.in-len8-up.len_at_least (sym c.get_u32.ensures ∙ c.if-get_u32-s.false) c.if-version-ne-VERSION.false c.in_ok-judge_sizes.ensures l.0 (rw l.1 at c.if-left-ne0.false) (rw l.1 at c.if-actions-gt-MOST_ACTIONS.false))

@@ -1,64 +1,82 @@
--- The tests that led to a `return` say which refusal is the first that applies (`Refused`).
-use Rattle.std.proofs.Common.{◌≡◌, ◌+◌, ◌*◌, ◌≤◌, ◌<◌, ◌/◌, ◌%◌, ℕ, List, length, true, refl, sym, ◌∙◌}
-use lib.Dec.{ltb}
+-- At each `return` the tests that led there say which refusal is the first that applies.
+use Rattle.std.proofs.Common.{◌≡◌, ◌+◌, ◌*◌, ◌≤◌, ◌<◌, ◌/◌, ◌%◌, ℕ, List, length, refl, sym, ◌∙◌}
 use borrow.Author.Tests.{lt-ltb, le-ltb}
+use Rattle.std.proofs.lemmas.Result.{err_from_is_err_and}
 use Rattle.figure.specs.declared.Sizes.{Sizes}
-use Rattle.figure.specs.Refusals.{most_actions}
+use Rattle.figure.specs.Refused.{number_of}
+use Rattle.figure.specs.Refusals.{first_of, sizes_refused, most_actions}
 use Rattle.figure.proofs.First.{Passed, passed-more, same_not, other-not}
+use Rattle.figure.proofs.Numbers.{not-none}
+use Rattle.lists.specs.Bytes.{word_width}
 use Rattle.lists.specs.Record.{record_width}
 use Rattle.lists.specs.Read.{header_width, list_bytes}
+use Rattle.lists.specs.Write.{write_refused}
 use Rattle.lists.proofs.Refused.{parts_refused, write-sizes, write-at}
 use Rattle.lists.proofs.Wire.{length-list}
 use Rattle.lists.proofs.writer.judge.Goals as goal
 
-module _ (z : Sizes) (memory actions : List ℕ) (room : ℕ) (many : length memory ≡ z.addresses) where
-  -- what has passed where a test was left
-  passed-10 : Passed 1 (parts_refused z memory actions room)
-  passed-10 = passed-more 0 (parts_refused z memory actions room) tt (same_not (length memory) z.addresses many)
+module _ (z : Sizes) (memory actions : List ℕ) (room : ℕ) where
+  abbrev first : ℕ
+  first = first_of (write_refused z memory actions room)
 
-  passed-8 : length actions % record_width ≡ 0 → Passed 2 (parts_refused z memory actions room)
-  passed-8 even = passed-more 1 (parts_refused z memory actions room) passed-10 (same_not (length actions % record_width) 0 even)
+  other-sizes : (n : ℕ) → n ≡ first_of (sizes_refused z) → ¬ (n ≡ 0) → n ≡ first
+  other-sizes = write-sizes z memory actions room
 
-  passed-9 : length actions % record_width ≡ 0 → length actions / record_width ≤ most_actions → Passed 3 (parts_refused z memory actions room)
-  passed-9 even few = passed-more 2 (parts_refused z memory actions room) (passed-8 even) (le-ltb most_actions (length actions / record_width) few)
+  module _ (sized : 0 ≡ first_of (sizes_refused z)) where
+    other-table : ¬ (length memory ≡ z.addresses) → 10 ≡ first
+    other-table h = write-at z memory actions room (sym sized) 0 tt (other-not (length memory) z.addresses h)
 
-  -- the list's length, as the code counts it
-  long : length (list_bytes z memory actions) ≡ header_width + 4 * z.addresses + length actions
-  long = length-list z memory actions ∙ rw many
+    module _ (many : length memory ≡ z.addresses) where
+      passed-10 : Passed 1 (parts_refused z memory actions room)
+      passed-10 = passed-more 0 (parts_refused z memory actions room) tt (same_not (length memory) z.addresses many)
 
-  short : room < header_width + 4 * z.addresses + length actions → ltb room (length (list_bytes z memory actions)) ≡ true
-  short h = lt-ltb room (length (list_bytes z memory actions)) (rw (long) h)
+      action-cut : ¬ (length actions % record_width ≡ 0) → 8 ≡ first
+      action-cut h = write-at z memory actions room (sym sized) 1 passed-10 (other-not (length actions % record_width) 0 h)
 
-  passed-30 : length actions % record_width ≡ 0 → length actions / record_width ≤ most_actions → header_width + 4 * z.addresses + length actions ≤ room → Passed 4 (parts_refused z memory actions room)
-  passed-30 even few fits =
-      passed-more 3 (parts_refused z memory actions room) (passed-9 even few) (le-ltb room (length (list_bytes z memory actions)) (rw (long) fits))
+      module _ (even : length actions % record_width ≡ 0) where
+        passed-8 : Passed 2 (parts_refused z memory actions room)
+        passed-8 = passed-more 1 (parts_refused z memory actions room) passed-10 (same_not (length actions % record_width) 0 even)
 
-pub returns-then-outside-ne0 : goal.returns-then-outside-ne0
-returns-then-outside-ne0 c =
+        too-many : most_actions < length actions / record_width → 9 ≡ first
+        too-many h = write-at z memory actions room (sym sized) 2 passed-8 (lt-ltb most_actions (length actions / record_width) h)
+
+        module _ (few : length actions / record_width ≤ most_actions) where
+          passed-9 : Passed 3 (parts_refused z memory actions room)
+          passed-9 = passed-more 2 (parts_refused z memory actions room) passed-8 (le-ltb most_actions (length actions / record_width) few)
+
+          -- the list's length, as the code counts it
+          short : room < header_width + word_width * length memory + length actions → 30 ≡ first
+          short h =
+              write-at z memory actions room (sym sized) 3 passed-9 (lt-ltb room (length (list_bytes z memory actions)) (rw (length-list z memory actions) h))
+
+          none-applies : header_width + word_width * length memory + length actions ≤ room → 0 ≡ first
+          none-applies h =
+              let fits = le-ltb room (length (list_bytes z memory actions)) (rw (length-list z memory actions) h) in
+              write-at z memory actions room (sym sized) 4 (passed-more 3 (parts_refused z memory actions room) passed-9 fits) refl
+
+pub returns-in_err-judge_sizes : goal.returns-in_err-judge_sizes
+returns-in_err-judge_sizes c =
     let a = c.args in
-    write-sizes a.sizes a.memory.now a.actions.now a.room c.judge_sizes-outside.result c.judge_sizes-outside.ensures c.if-outside-ne0.true
+    let e = c.in_err-judge_sizes.field-0.0 in
+    let p = err_from_is_err_and c.from_residual.result c.from_residual.ensures.1 in
+    rw (p.1, p.2) (other-sizes a.sizes a.memory.now a.actions.now a.room (number_of e) c.in_err-judge_sizes.ensures (not-none e))
 
-pub returns-then-memory-m : goal.returns-then-memory-m
-returns-then-memory-m c =
-    let a = c.args in
-    write-at a.sizes a.memory.now a.actions.now a.room (sym c.judge_sizes-outside.ensures ∙ c.if-outside-ne0.false) 0 tt (other-not _ _ c.if-memory-m.true)
+pub returns-then-memory-from : goal.returns-then-memory-from
+returns-then-memory-from c =
+    other-table c.args.sizes c.args.memory.now c.args.actions.now c.args.room c.in_ok-judge_sizes.ensures (rw c.from.ensures at c.if-memory-from.true)
 
 pub returns-then-actions-ne0 : goal.returns-then-actions-ne0
 returns-then-actions-ne0 c =
-    let a = c.args in
-    write-at a.sizes a.memory.now a.actions.now a.room (sym c.judge_sizes-outside.ensures ∙ c.if-outside-ne0.false) 1 (passed-10 a.sizes a.memory.now a.actions.now a.room c.if-memory-m.false) (other-not _ _ c.if-actions-ne0.true)
+    action-cut c.args.sizes c.args.memory.now c.args.actions.now c.args.room c.in_ok-judge_sizes.ensures (c.if-memory-from.false ∙ c.from.ensures) c.if-actions-ne0.true
 
 pub returns-then-actions-gt-MOST_ACTIONS : goal.returns-then-actions-gt-MOST_ACTIONS
 returns-then-actions-gt-MOST_ACTIONS c =
-    let a = c.args in
-    write-at a.sizes a.memory.now a.actions.now a.room (sym c.judge_sizes-outside.ensures ∙ c.if-outside-ne0.false) 2 (passed-8 a.sizes a.memory.now a.actions.now a.room c.if-memory-m.false c.if-actions-ne0.false) (lt-ltb _ _ c.if-actions-gt-MOST_ACTIONS.true)
+    too-many c.args.sizes c.args.memory.now c.args.actions.now c.args.room c.in_ok-judge_sizes.ensures (c.if-memory-from.false ∙ c.from.ensures) c.if-actions-ne0.false c.if-actions-gt-MOST_ACTIONS.true
 
-pub returns-then-room-m : goal.returns-then-room-m
-returns-then-room-m c =
-    let a = c.args in
-    write-at a.sizes a.memory.now a.actions.now a.room (sym c.judge_sizes-outside.ensures ∙ c.if-outside-ne0.false) 3 (passed-9 a.sizes a.memory.now a.actions.now a.room c.if-memory-m.false c.if-actions-ne0.false c.if-actions-gt-MOST_ACTIONS.false) (short a.sizes a.memory.now a.actions.now a.room c.if-memory-m.false c.if-room-m.true)
+pub returns-then-room-memory : goal.returns-then-room-memory
+returns-then-room-memory c =
+    short c.args.sizes c.args.memory.now c.args.actions.now c.args.room c.in_ok-judge_sizes.ensures (c.if-memory-from.false ∙ c.from.ensures) c.if-actions-ne0.false c.if-actions-gt-MOST_ACTIONS.false c.if-room-memory.true
 
 pub returns : goal.returns
 returns c =
-    let a = c.args in
-    write-at a.sizes a.memory.now a.actions.now a.room (sym c.judge_sizes-outside.ensures ∙ c.if-outside-ne0.false) 4 (passed-30 a.sizes a.memory.now a.actions.now a.room c.if-memory-m.false c.if-actions-ne0.false c.if-actions-gt-MOST_ACTIONS.false c.if-room-m.false) refl
+    none-applies c.args.sizes c.args.memory.now c.args.actions.now c.args.room c.in_ok-judge_sizes.ensures (c.if-memory-from.false ∙ c.from.ensures) c.if-actions-ne0.false c.if-actions-gt-MOST_ACTIONS.false c.if-room-memory.false

@@ -1,10 +1,6 @@
-use Rattle.std.proofs.Common.{length, ◌-◌}
 use Rattle.lists.specs.Bytes.{u32_bytes}
 use Rattle.lists.proofs.Rows.{Putting}
 use Rattle.lists.proofs.writer.put_words.Given as goal
 
 abbrev pub invariant-loop-k : goal.invariant-loop-k
 invariant-loop-k l = Putting u32_bytes 4 l.words l.initial.out l.at l.out l.k
-
-abbrev pub decreases-loop-k : goal.decreases-loop-k
-decreases-loop-k l = length l.words - l.k

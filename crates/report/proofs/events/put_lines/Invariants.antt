@@ -1,10 +1,8 @@
-use Rattle.std.proofs.Common.{◌-◌}
+use Rattle.std.proofs.Common.{◌≡◌}
+use Rattle.report.specs.Text.{series}
+use Rattle.report.specs.Cursor.{appended}
 use Rattle.report.specs.Events.{account_line}
-use Rattle.report.proofs.Series.{Lining}
 use Rattle.report.proofs.events.put_lines.Given as goal
 
 abbrev pub invariant-loop-k : goal.invariant-loop-k
-invariant-loop-k l = Lining (account_line l.account) l.n l.fn.out l.at l.out l.next l.k
-
-abbrev pub decreases-loop-k : goal.decreases-loop-k
-decreases-loop-k l = l.n - l.k
+invariant-loop-k l = l.to ≡ appended (series (account_line l.account) l.k) l.initial.to

@@ -1,0 +1,12 @@
+-- Where the length is no more than the depth, the test of the entries is what is left.
+use Rattle.std.proofs.Common.{take, rules, tests}
+use borrow.Author.Tests.{le-leb}
+use Rattle.shape.specs.Sound.{sound_out_entry}
+use Rattle.scan.proofs.Laws.{all-slice}
+use Rattle.scan.proofs.out_sound.Goals as goal
+
+pub returns-then-outs-z : goal.returns-then-outs-z
+returns-then-outs-z c =
+    let z = c.args.z in
+    let q = c.args.outs.now in
+    rw (le-leb q.len z.depth c.if-outs-z.true) (all-slice (sound_out_entry z) (take q.len q.entries) (cc) (λ x b q k. search (rules, tests)) _ c.all.ensures.ran)

@@ -1,9 +1,0 @@
--- The measure is what is left of the 8 engines.
-use Rattle.std.proofs.Common.{◌≤◌, ◌-◌}
-use Rattle.states.proofs.decode.state_of.Given as goal
-
-abbrev pub invariant-loop-k : goal.invariant-loop-k
-invariant-loop-k l = l.k ≤ 8
-
-abbrev pub decreases-loop-k : goal.decreases-loop-k
-decreases-loop-k l = 8 - l.k
