@@ -93,7 +93,7 @@ pub fn place_of(i: Engine) -> usize
 }
 
 // Only R asks whether an entry of its own waits, and only MW whether some in queue is full: for another kind nobody need look.
-// Kept: two names, since docs/DECISIONS 45 names both, and a byte, since the C interface needs a record's kind as a number; one that is no kind asks nothing.
+// Kept: two names of one comparison each, since one for both would be a plain test of the kind, which does not say what is asked; and a byte, since the C interface needs a record's kind as a number, and one that is no kind asks nothing.
 pub fn asks_own(kind: u8) -> bool
     ensures { result ≡ eqb kind 1 }
 {

@@ -9,7 +9,7 @@ use crate::{ENGINES, Engine, Kind, Record, WriteNumber};
 const MOST_WRITES: u32 = 4294967294;
 
 // How many writes are published, how many each engine has taken, and the number of its last own published write, 0 where it has none.
-// Kept: 0 and no Option, and an array for each number of an engine, since what may not change needs them: `Mirrors` of specs/Ledger ties each array to a function of the account, where no write is 0. No code reads `own`: the theorems about demand 3 do.
+// Kept: 0 and no Option, and an array for each number of an engine, since what may not change needs them: `Mirrors` of specs/Ledger ties each array to a function of the account, where no write is 0. No code asks for `own` but `published_by`, which hands it on: the theorems about demand 3 do.
 #[derive(Clone, Copy, Debug, Default, PartialEq, Eq)]
 pub struct Ledger {
     pub published: WriteNumber,

@@ -15,7 +15,7 @@ pub use kind::Kind;
 pub use refused::Refused;
 
 // An engine number, from 1. As an origin, 0 means "from memory".
-// Kept: the C interface needs the 0, which a record there has as its origin, and no Option.
+// Kept: the C interface needs the 0, which a record there has as its origin, not an Option.
 #[repr(C)]
 #[derive(Clone, Copy, Debug, Default, PartialEq, Eq)]
 pub struct Engine(pub u8);

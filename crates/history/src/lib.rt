@@ -29,7 +29,7 @@ pub fn run(list: &[u8], trace: &mut [u8], account: &mut [u8]) -> Result<Counts, 
     if trace.len() < RECORD * l.actions {
         return Err(Refused::TraceShort);
     }
-    // Kept: two numbers a size, since Rattle has no computed const argument (TABLE is N + 9); six sizes, so that a short list clears little.
+    // Kept: two numbers a size: no form is plainer, since Rattle has no computed const argument (TABLE is N + 9); six sizes, so that a short list clears little.
     match l.actions {
         0..=64 => run_in::<64, 73>(list, l, trace, account),
         65..=128 => run_in::<128, 137>(list, l, trace, account),
