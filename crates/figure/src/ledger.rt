@@ -24,6 +24,7 @@ pub fn none_entered() -> Ledger
 }
 
 // An engine of some store.
+// Kept: the theorems is_engine_answers and is_engine_one of promises are about this name; the code itself asks for `place`.
 pub fn is_engine(i: Engine) -> bool
     ensures { result ≡ is_engine i }
 {
