@@ -1,4 +1,4 @@
--- The six kinds by number: "kind 1 R, 2 W, 3 MW, 4 MR, 5 CU, 6 CI". Assumes nothing.
+-- The six kinds by number, as the table of steps has them: 1 R, a read; 2 W, a write; 3 MW, which publishes; 4 MR, a refresh; 5 CU, an update; 6 CI, which forgets. Assumes nothing.
 use Rattle.std.specs.Prelude.{ℕ, ◌≡◌, true, Result, MatchResult}
 use Rattle.figure.specs.Refusals.{outside}
 use Rattle.figure.specs.declared.kind.Kind.{Kind}
