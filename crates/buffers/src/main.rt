@@ -11,7 +11,7 @@ ghost use Rattle.stream.specs.Room.{most_held};
 
 use std::io::{Read, Write};
 use stream::room::MOST_HELD;
-use stream::window::{CutShort, Window};
+use stream::window::{CutShort, Input};
 
 fn tell_list<W: Write>(writer: &mut W, list: &[u8]) {
     let _ = writeln!(writer, "list {}", list.len());
@@ -22,7 +22,7 @@ fn tell_list<W: Write>(writer: &mut W, list: &[u8]) {
 // A chunk that is longer than what a run is handed ends the input, as one that is cut short does.
 // Kept: a count that no input uses up, since a proved loop has to end and no function may gain a Wait bound.
 // Kept: a loop here and in `replay`: the bodies differ in all but the call for the next chunk, and a closure that does their work would have to promise that the window keeps its room.
-fn tell_chunks<R: Read, W: Write>(input: &mut Window<R>, writer: &mut W) -> Result<(), CutShort>
+fn tell_chunks<R: Read, W: Write>(input: &mut Input<R>, writer: &mut W) -> Result<(), CutShort>
     requires { most_held ≤ length input.old.buffer.now }
 {
     for _ in 0..u64::MAX {
@@ -44,7 +44,7 @@ fn main(rt: HostRuntime) {
     let mut writer = rt.stdout();
     rows::tell_all(&mut writer);
     let mut buffer = [0u8; MOST_HELD];
-    let mut input = Window::new(&mut reader, &mut buffer);
+    let mut input = Input::new(&mut reader, &mut buffer);
     if let Err(e) = tell_chunks(&mut input, &mut writer) {
         let _ = writeln!(writer, "{e}");
     }

@@ -16,7 +16,7 @@ use Rattle.decide.specs.Move.{Turned, refusing, decided, step_of, look_refused, 
 use Rattle.decide.specs.declared.Look.{Look}
 
 -- a refusal in front that applies, and one that does not
-first-hit : (n : ℕ) (rs : List Refusal) {b : Bool} → b ≡ true → first_of (n when b ∷ rs) ≡ n
+pub first-hit : (n : ℕ) (rs : List Refusal) {b : Bool} → b ≡ true → first_of (n when b ∷ rs) ≡ n
 first-hit n rs e = rw (e)
 
 pub first-miss : (n : ℕ) (rs : List Refusal) {b : Bool} → b ≡ false → first_of (n when b ∷ rs) ≡ first_of rs

@@ -1,11 +1,14 @@
 -- A machine goes on by steps and tells something at each: many steps, from the front of a list or one after another by number. Assumes nothing.
 use mathlib.Core.Path.{◌≡◌, refl, sym, ap, ◌∙◌}
+use mathlib.Core.Bool.{Bool, true, false}
 use mathlib.Core.List.{List, [], ◌∷◌, ◌++◌, append_assoc, append-nil}
 use Prim.Native.Nat.{ℕ, zero, suc, ◌+◌, ◌≤◌, ◌<◌}
-use native.Mathlib.Nat.{le_refl, zero-add, suc-add}
+use native.Mathlib.Nat.{le_refl, not-suc-le-zero, zero-add, suc-add}
 use native.Mathlib.Omega.{arith}
-use lib.ListN.{length, get_or, take, length-append}
-use lib.Seq.{take-suc, take-length}
+use borrow.Author.Tests.{ltb-true, ltb-false}
+use lib.Dec.{ltb}
+use lib.ListN.{length, get_or, take, length-append, get_or-append}
+use lib.Seq.{take-suc, take-length, get_or_at}
 
 -- where a list of steps leads, and what it tells on the way
 module _ {S X : Type 0} (go : S → X → S) where
@@ -33,11 +36,21 @@ module _ {S X : Type 0} (go : S → X → S) where
 
 -- ---- steps by number
 
--- a list that is built by number: its length
+-- a list that is built by number: its length and its entries
 module _ {A : Type 0} (g : ℕ → A) (l : ℕ → List A) (none : l 0 ≡ []) (more : (n : ℕ) → l (suc n) ≡ l n ++ (g n ∷ [])) where
   pub built-long : (n : ℕ) → length (l n) ≡ n
   built-long zero = ap length none
   built-long (suc n) = ap length (more n) ∙ length-append (l n) (g n ∷ []) ∙ omega (arith, built-long n)
+
+  pub built-at : (n k : ℕ) (d : A) → k < n → get_or (l n) k d ≡ g k
+  built-at zero k d h = absurd (not-suc-le-zero h)
+  built-at (suc n) k d h = ap (λ (m : List A). get_or m k d) (more n) ∙ at (ltb k n) refl (built-at n k d)
+    where
+      at : (t : Bool) → ltb k n ≡ t → (k < n → get_or (l n) k d ≡ g k) → get_or (l n ++ (g n ∷ [])) k d ≡ g k
+      at true e ih = get_or-append (l n) (g n ∷ []) d k (omega (arith, built-long n, ltb-true k n e)) ∙ ih (ltb-true k n e)
+      at false e ih =
+          let q : k ≡ n = omega (arith, ltb-false k n e) in
+          rw q (get_or_at (l n) (g n) [] d n (built-long n))
 
 -- x 0, .., x (n - 1)
 module _ {X : Type 0} where

@@ -19,6 +19,7 @@ use Rattle.figure.proofs.Serial.{inv-fresh}
 use Rattle.lists.specs.Bytes.{rows}
 use Rattle.lists.proofs.Rows.{rows_append, length-rows}
 use Rattle.sort.specs.Order.{add_if, in_slot, sorted_below}
+use Rattle.sort.proofs.Sorted.{start-le}
 use Rattle.lists.specs.Line.{line_width, line_bytes, no_number}
 use Rattle.demands.specs.Lines.{item_record, item_bytes, slot_lines, account_bytes}
 use Rattle.demands.proofs.Lengths.{length-slots, length-account}
@@ -146,6 +147,9 @@ module _ {z : Sizes} {mem : ℕ → ℕ} {x : ℕ → Record} {n : ℕ} {xs : Li
 
   pub account-long : length (account z b) ≡ length (order_of x n z.engines)
   account-long = omega (arith, length-account z b, ap length account_is, length-placed x keys (order_of x n z.engines))
+
+  pub account_most : length (account z b) ≤ n
+  account_most = omega (arith, account-long, start-le keys (suc (tail_key n z.engines)), keys-long x n n)
 
   pub settled-long : length (settled z b) ≡ length (sorted_below keys (suc (lowest_floor (ledger_at x n) z.engines)))
   settled-long =

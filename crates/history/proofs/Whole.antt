@@ -1,7 +1,7 @@
 -- The pieces of the run together: what they leave is the account of the run's book. Assumes nothing.
 use mathlib.Core.List.{List, map}
 use mathlib.Core.Path.{◌≡◌, refl, sym, ap, ◌∙◌}
-use Prim.Native.Nat.{ℕ, ◌-◌}
+use Prim.Native.Nat.{ℕ, ◌-◌, ◌≤◌}
 use Rattle.std.specs.Prelude.{Ok}
 use native.Mathlib.Omega.{arith}
 use lib.ListN.{length}
@@ -51,6 +51,9 @@ module _ (list : List ℕ) (ok : (read_of list).number ≡ 0) (x : ℕ → Recor
 
   pub account-bytes : rows (placed_line x (keys_of x n)) (order_of x n z.engines) ≡ account_bytes z (run_book list)
   account-bytes = sym (built.account_is run) ∙ ap (account_bytes z) book_is
+
+  pub events-most : length (run_account list) ≤ n
+  events-most = rw (ap (λ (b : Book). length (account z b)) book_is) at (built.account_most run)
 
   refused-are : n - accepted_in (run_trace list) ≡ refused_in (run_trace list)
   refused-are = omega (arith, all-counted (run_trace list), ap length recs, records-long x n)

@@ -63,6 +63,7 @@ demand-1 =
       in_place_answers = record { meets = store.step_in_place.Met.met; asks_nothing = λ κs a. tt };
       turns_answers = record { meets = store.turns_from_fresh.Met.met; asks_nothing = λ κs a. tt };
       run_answers = record { meets = history.run.Met.met; asks_nothing = λ κs a. tt };
+      numbered_answers = record { meets = report.numbered.Met.met; asks_nothing = λ κs a. tt };
       account_text_answers = record { meets = report.account_text.Met.met; asks_nothing = λ κs a. tt };
       trace_text_answers = record { meets = report.trace_text.Met.met; asks_nothing = λ κs a. tt };
       show_text_answers = record { meets = report.show_text.Met.met; asks_nothing = λ κs a. tt };

@@ -1,5 +1,5 @@
 -- What people read is what the specs say, of every run. Assumes nothing.
-use mathlib.Core.Path.{◌≡◌, refl, ap, subst, ◌∙◌}
+use mathlib.Core.Path.{◌≡◌, refl, sym, ap, subst, ◌∙◌}
 use mathlib.Core.Bool.{Bool, true, false}
 use mathlib.Core.List.{List, [], ◌∷◌, ◌++◌}
 use Prim.Native.Nat.{ℕ, suc, ◌≤◌, min}
@@ -103,6 +103,7 @@ pub texts : TextsKept
 texts =
     record {
       handed_on = handed_on;
+      handed_on_by = λ κs a r e h. h ∙ sym (handed_on a.0);
       account = λ κs a r e h κs₂ b n e₂ k. account-shown h k.0;
       shown = λ κs a r e h κs₂ b n e₂ k. show-shown h k.0;
       traced = λ κs a r e h. shown h.0;

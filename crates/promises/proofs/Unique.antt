@@ -52,6 +52,7 @@ unique =
       in_place_one = λ κs a r r' e e' h k. (same-said r r' (same h.1 k.1), same h.0 k.0);
       turns_one = λ κs a r r' e e' h k. (one-result number_in (λ n. n) (λ n. tt) (λ u. refl) (λ e. refl) (λ u. refl) r r' (same h.number k.number), same h.trace_is k.trace_is);
       run_one = λ κs a r r' e e' h k. (same-answered r r' (same h.counts k.counts), (same h.trace_is k.trace_is, same h.account_is k.account_is));
+      numbered_one = λ κs a r r' e e' h k. same h k;
       account_text_one = λ κs a r r' e e' h k. wrote-unique h.0 k.0;
       trace_text_one = λ κs a r r' e e' h k. wrote-unique h.0 k.0;
       show_text_one = λ κs a r r' e e' h k. wrote-unique h.0 k.0;

@@ -71,6 +71,11 @@ EveryCount P = (κs : Lfts 1) (a : _) (r : ℕ) (e : _) → lists.walker.count.R
 abbrev pub EveryRun : (List ℕ → List ℕ → List ℕ → Answered → List ℕ → List ℕ → Type 0) → Type 0
 EveryRun P = (κs : Lfts 3) (a : _) (r : Result Counts Refused) (e : _) → history.run.Reads.Post κs a r e → P a.0.now a.1.0.now a.1.1.0.now (answered_by r) e.1.0.now e.1.1.0.now
 
+-- ---- what is handed on of a run's answer
+
+abbrev pub EveryNumbered : (Answered → Result Counts ℕ → Type 0) → Type 0
+EveryNumbered P = (κs : Lfts 0) (a : _) (r : Result Counts ℕ) (e : _) → report.numbered.Reads.Post κs a r e → P (answered_by a.0) r
+
 -- ---- what people read: counts and account (a hash; a list, counts, trace and account) in, the output is lent, the text's length out
 
 abbrev pub EveryAccountText : (Result Counts ℕ → List ℕ → List ℕ → ℕ → List ℕ → Type 0) → Type 0

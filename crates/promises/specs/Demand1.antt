@@ -61,6 +61,7 @@ pub record Demand1 : Type 2 where
   -- history
   pub run_answers : Answers history.run.Statement.statement ((κs : Lfts 3) (a : _) → history.run.Reads.Asked κs a)
   -- report
+  pub numbered_answers : Answers report.numbered.Statement.statement ((κs : Lfts 0) (a : _) → report.numbered.Reads.Asked κs a)
   pub account_text_answers : Answers report.account_text.Statement.statement ((κs : Lfts 2) (a : _) → report.account_text.Reads.Asked κs a)
   pub trace_text_answers : Answers report.trace_text.Statement.statement ((κs : Lfts 1) (a : _) → report.trace_text.Reads.Asked κs a)
   pub show_text_answers : Answers report.show_text.Statement.statement ((κs : Lfts 4) (a : _) → report.show_text.Reads.Asked κs a)

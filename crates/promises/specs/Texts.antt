@@ -9,7 +9,7 @@ use Rattle.report.specs.Actions.{head_line, step_lines, most_show_text}
 use Rattle.report.specs.Events.{numbered, account_line, counts_line, refused_line, most_account_text}
 use Rattle.report.specs.Hex.{trace_text, trace_text_length}
 use Rattle.report.specs.Text.{series}
-use Rattle.promises.specs.Calls.{EveryRun, EveryAccountText, EveryTraceText, EveryShowText}
+use Rattle.promises.specs.Calls.{EveryRun, EveryNumbered, EveryAccountText, EveryTraceText, EveryShowText}
 
 -- n is the text's length; the text stands at the front of the lent buffer, and of one that is too short for it its first bytes
 pub record Shown (text out : List ℕ) (n : ℕ) (out' : List ℕ) : Type 0 where
@@ -26,8 +26,9 @@ abbrev pub account_lines : Answered → List ℕ → List ℕ
 account_lines c account = counts_line c ++ series (account_line account) c.events
 
 pub record TextsKept : Type 0 where
-  -- the programs hand on `said.map_err(Refused::number)`
+  -- the programs hand on what `report::numbered` makes of a run's answer
   pub handed_on : (r : Result Counts Refused) → said_of (answered_by r) ≡ numbered r
+  pub handed_on_by : EveryNumbered (λ r c. c ≡ said_of r)
   -- what `account` prints of any run, no event left out
   pub account : EveryRun (λ list trace account r trace' account'. EveryAccountText (λ c bytes out n out'.
       c ≡ said_of r → bytes ≡ account' → Shown (pick (eqb r.number 0) (account_lines r account') (refused_line r.number)) out n out'))

@@ -58,7 +58,8 @@ pub record Unique : Type 0 where
   pub turns_one : (κs : Lfts 3) (a : _) (r r' : Result (Unit {0}) Refused) (e e' : _) → store.turns_from_fresh.Reads.Post κs a r e → store.turns_from_fresh.Reads.Post κs a r' e' → (r ≡ r') × (e.1.1.1.0.now ≡ e'.1.1.1.0.now)
   -- history: the counts, every byte of trace and account
   pub run_one : (κs : Lfts 3) (a : _) (r r' : Result Counts Refused) (e e' : _) → history.run.Reads.Post κs a r e → history.run.Reads.Post κs a r' e' → (r ≡ r') × ((e.1.0.now ≡ e'.1.0.now) × (e.1.1.0.now ≡ e'.1.1.0.now))
-  -- report: the length, every byte of the output
+  -- report: what is handed on; the length, every byte of the output
+  pub numbered_one : (κs : Lfts 0) (a : _) (r r' : Result Counts ℕ) (e e' : _) → report.numbered.Reads.Post κs a r e → report.numbered.Reads.Post κs a r' e' → r ≡ r'
   pub account_text_one : (κs : Lfts 2) (a : _) (r r' : ℕ) (e e' : _) → report.account_text.Reads.Post κs a r e → report.account_text.Reads.Post κs a r' e' → (r ≡ r') × (e.1.1.0.now ≡ e'.1.1.0.now)
   pub trace_text_one : (κs : Lfts 1) (a : _) (r r' : ℕ) (e e' : _) → report.trace_text.Reads.Post κs a r e → report.trace_text.Reads.Post κs a r' e' → (r ≡ r') × (e.1.0.now ≡ e'.1.0.now)
   pub show_text_one : (κs : Lfts 4) (a : _) (r r' : ℕ) (e e' : _) → report.show_text.Reads.Post κs a r e → report.show_text.Reads.Post κs a r' e' → (r ≡ r') × (e.1.1.1.1.0.now ≡ e'.1.1.1.1.0.now)

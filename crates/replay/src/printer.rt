@@ -2,7 +2,6 @@
 ghost use Rattle.std.specs.Prelude.{◌+◌, ◌≤◌, length};
 ghost use Rattle.replay.specs.Printed.{most_printed};
 
-use figure::Refused;
 use std::io::Write;
 use stream::front::front;
 use stream::told;
@@ -30,7 +29,7 @@ impl<W: Write> Printer<'_, W> {
         let end = said.map_or(0, |_| stream::room::trace_bytes(list));
         let hash = stream::hash::hash(front(self.trace, end));
         let out = &mut self.text[self.waiting..];
-        let n = report::account_text(said.map_err(Refused::number), self.account, out);
+        let n = report::account_text(report::numbered(said), self.account, out);
         n + report::trace_text(hash, &mut out[n..])
     }
 

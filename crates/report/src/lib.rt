@@ -9,10 +9,10 @@ mod form;
 mod step;
 mod text;
 
-ghost use Rattle.std.specs.Prelude.{◌≤◌};
+ghost use Rattle.std.specs.Prelude.{◌≡◌, ◌≤◌};
 ghost use Rattle.report.specs.Text.{Printed};
 ghost use Rattle.report.specs.Hex.{trace_text, trace_text_length};
-ghost use Rattle.report.specs.Events.{account_said, most_account_text};
+ghost use Rattle.report.specs.Events.{numbered, account_said, most_account_text};
 ghost use Rattle.report.specs.Actions.{show_said, most_show_text};
 
 use crate::actions::put_show;
@@ -20,6 +20,7 @@ use crate::bytes::put_trace;
 use crate::events::put_account;
 use crate::text::Text;
 use demands::Counts;
+use figure::Refused;
 use lists::reader::MOST_ACTIONS;
 
 // A buffer of so many bytes holds every text of an account: the counts, and a line for each event.
@@ -29,6 +30,13 @@ pub const TRACE_TEXT: usize = 23;
 
 // The head, a line for each action, and the account.
 pub const MOST_SHOW_TEXT: usize = 747 + 52 * MOST_ACTIONS + MOST_ACCOUNT_TEXT;
+
+// What is handed on of a run's answer: its counts, or the number of its refusal.
+pub fn numbered(said: Result<Counts, Refused>) -> Result<Counts, u8>
+    ensures { result ≡ numbered said }
+{
+    said.map_err(Refused::number)
+}
 
 // What program `account` prints of a run: its counts and its account, or the number of its refusal, whatever number that is.
 // Kept: a refusal by its number, since what may not change needs it: account_text and show_text print any number, and a Refused would ask more of callers (README names report, so it isn't inner).

@@ -2,23 +2,24 @@
 use mathlib.Core.Path.{◌≡◌, refl, sym, ap, ◌∙◌}
 use mathlib.Core.Bool.{Bool, true, false, ◌&&◌, ◌||◌}
 use mathlib.Core.List.{List, [], ◌∷◌}
-use Prim.Native.Nat.{ℕ, suc, pred, ◌<◌}
+use Prim.Native.Nat.{ℕ, zero, suc, pred, ◌<◌}
 use native.Mathlib.Omega.{arith}
-use lib.ListN.{take}
+use lib.ListN.{length, take}
 use denote.Ref.{Bor}
 use denote.Param.Members.{Mut}
 use Rattle.std.specs.declared.iter.Take.{Take}
+use Rattle.std.specs.declared.iter.Zip.{Zip}
 use Rattle.std.specs.declared.slice.Iter.{Iter}
 use borrow.Author.Tests.{ne_eqb}
 use Rattle.std.specs.Prelude.{Result, Ok, Err, Some, None, is_ok}
 use Rattle.std.specs.Bool.{then_some}
-use Rattle.std.specs.List.{list_all, list_any}
+use Rattle.std.specs.List.{list_all, list_any, zip}
 use Rattle.std.specs.Fn.{Called}
 use Rattle.std.specs.Iterator.{ChecksAll, ChecksAny}
-use Rattle.std.specs.Iterator.Adapters.{take_source, take_count, take_steps}
+use Rattle.std.specs.Iterator.Adapters.{take_source, take_count, take_steps, zip_first, zip_second, zip_steps}
 use Rattle.std.specs.Slice.Iter.{iter_rest}
 use Rattle.std.proofs.iter.Yields.{fronts}
-use Rattle.std.proofs.lemmas.Iterator.{YieldsList, YieldsList-from_slice, YieldsList-from_take}
+use Rattle.std.proofs.lemmas.Iterator.{YieldsList, YieldsList-from_slice, YieldsList-from_take, YieldsList-from_zip}
 use Rattle.std.proofs.lemmas.Iterator.Consumers.{YieldsList-at}
 use Rattle.std.proofs.lemmas.Iterator.Search.{all_from_yields_List, any_from_yields_List}
 use Rattle.figure.specs.Figure.{Step}
@@ -59,6 +60,33 @@ module _ {A F : Type 0} {g : Mut F (Bor A × Unit {0}) Bool} {s : Take (Iter A)}
 
   pub any-firsts : ChecksAny (take_steps fronts) g s f r u → r ≡ any test (take n xs)
   any-firsts ran = any_from_yields_List test u f r ran (firsts n xs source rest count) tells ∙ any-listed test (take n xs)
+
+-- ---- and what the first n pairs of two lists of one length answer
+
+module _ {A B : Type 0} (test : A → Bool) (other : B → Bool) where
+  abbrev each-both : A × B → Bool
+  each-both p = test p.0 && other p.1
+
+  apart : (a b c d : Bool) → ((a && b) && (c && d)) ≡ ((a && c) && (b && d))
+  apart true true c d = refl
+  apart true false true d = refl
+  apart true false false d = refl
+  apart false b c d = refl
+
+  all-both : (n : ℕ) (xs : List A) (ys : List B) → length xs ≡ length ys → all each-both (take n (zip xs ys)) ≡ (all test (take n xs) && all other (take n ys))
+  all-both zero xs ys e = refl
+  all-both (suc n) [] [] e = refl
+  all-both (suc n) [] (y ∷ ys) e = absurd (omega (arith, e))
+  all-both (suc n) (x ∷ xs) [] e = absurd (omega (arith, e))
+  all-both (suc n) (x ∷ xs) (y ∷ ys) e = rw (all-both n xs ys (omega (arith, e))) (apart (test x) (other y) (all test (take n xs)) (all other (take n ys)))
+
+module _ {A B F : Type 0} {g : Mut F ((Bor A × Bor B) × Unit {0}) Bool} {s : Take (Zip (Iter A) (Iter B))} {from : Zip (Iter A) (Iter B)} {f : F} (test : A → Bool) (other : B → Bool) (n : ℕ) (xs : List A) (ys : List B)
+    (source : take_source s ≡ from) (one : iter_rest (zip_first from) ≡ xs) (two : iter_rest (zip_second from) ≡ ys) (count : take_count s ≡ n) (long : length xs ≡ length ys)
+    (tells : (x : Bor A × Bor B) (b : Bool) (q : F) → Called g f (x, tt) b q → (q ≡ f) × (b ≡ (test x.0.now && other x.1.now))) {r : Bool} (u : Take (Zip (Iter A) (Iter B))) where
+  pub all-pairs : ChecksAll (take_steps (zip_steps fronts fronts)) g s f r u → r ≡ (all test (take n xs) && all other (take n ys))
+  all-pairs ran =
+      let pairs = YieldsList-at source (YieldsList-from_zip (YieldsList-from_slice xs one) (YieldsList-from_slice ys two)) in
+      all_from_yields_List (each-both test other) u f r ran (YieldsList-from_take n pairs count) tells ∙ all-listed (each-both test other) (take n (zip xs ys)) ∙ all-both test other n xs ys long
 
 -- ---- and over a slice
 

@@ -52,15 +52,18 @@ fn in_sound(z: Sizes, ins: &InQueue) -> bool
             .all(|e| e.origin.0 <= z.engines && e.address.0 < z.addresses)
 }
 
-// The test of refusal 17.
+// The test of refusal 17, engine by engine: past one whose queues are not sound nothing is looked at.
 pub fn is_sound(s: &Store) -> bool
     ensures { result ≡ sound_of s.now }
 {
     let z = s.sizes;
     let n = usize::from(z.engines);
     figure::judge_sizes(z).is_ok()
-        && s.outs.iter().take(n).all(|q| out_sound(z, q))
-        && s.ins.iter().take(n).all(|q| in_sound(z, q))
+        && s.outs
+            .iter()
+            .zip(s.ins.iter())
+            .take(n)
+            .all(|(outs, ins)| out_sound(z, outs) && in_sound(z, ins))
 }
 
 // An entry of engine i's own waits in the in queue.

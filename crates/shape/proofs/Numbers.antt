@@ -1,14 +1,18 @@
 -- The number of an answer: "The first that applies, in the table's order, is the answer; 0 if none does." Assumes nothing.
 use mathlib.Core.Path.{◌≡◌, refl, sym, ◌∙◌}
-use mathlib.Core.Bool.{true, false}
-use mathlib.Core.List.{List, ◌++◌}
+use mathlib.Core.Bool.{Bool, true, false}
+use mathlib.Core.List.{List, [], ◌++◌}
 use Prim.Native.Nat.{ℕ, zero, suc}
 use native.Mathlib.Omega.{arith}
+use lib.Dec.{eqb}
+use borrow.Author.Tests.{eqb-true, eqb-false}
 use Rattle.figure.specs.Refusals.{first_of}
 use Rattle.figure.specs.declared.Record.{Record}
 use Rattle.figure.specs.declared.Sizes.{Sizes}
 use Rattle.figure.proofs.First.{first-append, first-front}
-use Rattle.shape.proofs.Kept.{fresh_sound, zeros_unsound}
+use Rattle.shape.proofs.Kept.{fresh-short, fresh_sound, zeros_unsound}
+use Rattle.shape.proofs.Shaped.{fresh-shaped}
+use Rattle.shape.specs.Shaped.{Shaped}
 use Rattle.shape.proofs.Taken.{form-numbered}
 use Rattle.shape.specs.Fresh.{fresh_of, zeros, fresh_refused, made, made_as}
 use Rattle.shape.specs.Sound.{sound_of}
@@ -61,9 +65,18 @@ module _ (z : Sizes) (table : List ℕ) where
   unfolding made
   made-zeros n = (made-cases (first_of (fresh_refused z table))).2 (λ e. n (made-number ∙ e))
 
-  -- a fresh store that is not refused is sound, and a refused one unsound
+  -- a fresh store that is not refused is sound, and a refused one unsound; both have the arrays' lengths
   pub made-sound : (made z table).number ≡ 0 → sound_of (made z table).store ≡ true
   made-sound e = rw (made-store e) (fresh_sound z table (sym made-number ∙ e))
 
   pub made-unsound : ¬ ((made z table).number ≡ 0) → sound_of (made z table).store ≡ false
   made-unsound n = rw (made-zeros n) zeros_unsound
+
+  pub made_shaped : Shaped (made z table).store
+  made_shaped = at (eqb (made z table).number 0) refl
+    where
+      at : (t : Bool) → eqb (made z table).number 0 ≡ t → Shaped (made z table).store
+      at true e =
+          let f : first_of (fresh_refused z table) ≡ 0 = sym made-number ∙ eqb-true _ 0 e in
+          rw (made-store (eqb-true _ 0 e)) (fresh-shaped z table (fresh-short z table f))
+      at false e = rw (made-zeros (eqb-false _ 0 e)) (fresh-shaped _ [] (omega arith))

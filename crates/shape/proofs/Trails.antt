@@ -1,12 +1,12 @@
--- Many steps of a store are a run over a list, and actions that are alike leave one trace. Assumes nothing.
+-- Many steps of a store are a run over a list: its trace record by record, and actions that are alike leave one trace. Assumes nothing.
 use mathlib.Core.Path.{◌≡◌, refl, sym, ap, ◌∙◌}
 use mathlib.Core.List.{List, []}
 use Prim.Native.Nat.{ℕ, zero, suc, ◌<◌}
-use lib.ListN.{length}
+use lib.ListN.{length, get_or}
 use Rattle.figure.specs.Refusals.{first_of, unless}
 use Rattle.figure.specs.declared.Record.{Record}
 use Rattle.figure.specs.declared.Sizes.{Sizes}
-use Rattle.figure.proofs.Machines.{runs, tape, below, below_alike, built-long, by_number}
+use Rattle.figure.proofs.Machines.{runs, tape, below, below_alike, built-long, built-at, by_number}
 use Rattle.lists.proofs.Put.{laid_none}
 use Rattle.lists.specs.Bytes.{laid}
 use Rattle.shape.specs.Fresh.{fresh_refused}
@@ -37,6 +37,10 @@ module _ (s : Store) (x : ℕ → Record) (n : ℕ) where
   pub length-trace : length (trace_after s x n) ≡ n
   unfolding trace_after
   length-trace = built-long (λ k. next_record (store_after s x k) (x k)) (trace_after s x) refl (λ k. refl) n
+
+  pub trace-at : (k : ℕ) (r : Record) → k < n → get_or (trace_after s x n) k r ≡ next_record (store_after s x k) (x k)
+  unfolding trace_after
+  trace-at = built-at (λ k. next_record (store_after s x k) (x k)) (trace_after s x) refl (λ k. refl) n
 
 module _ (s : Store) (x y : ℕ → Record) (n : ℕ) (same : (k : ℕ) → k < n → x k ≡ y k) where
   pub trace-alike : trace_after s x n ≡ trace_after s y n

@@ -1,7 +1,6 @@
 // Reads a list from standard input and prints `refused N`, or its head, its actions with what came of each, and what `account` prints.
 #![tactic(auto)]
 
-use figure::Refused;
 use stream::room::{MOST_ACCOUNT, MOST_HELD, MOST_TRACE};
 use stream::told;
 
@@ -11,7 +10,7 @@ fn main(rt: HostRuntime) {
     let got = stream::window::read_full(&mut rt.stdin(), &mut list);
     let mut trace = [0u8; MOST_TRACE];
     let mut account = [0u8; MOST_ACCOUNT];
-    let said = history::run(&list[..got], &mut trace, &mut account).map_err(Refused::number);
+    let said = report::numbered(history::run(&list[..got], &mut trace, &mut account));
     let mut text = [0u8; report::MOST_SHOW_TEXT];
     let length = report::show_text(&list[..got], said, &trace, &account, &mut text);
     told::text(&mut rt.stdout(), &text[..length]);

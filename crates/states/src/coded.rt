@@ -1,44 +1,45 @@
-// What an item is made of, as bytes: its parts one after the other. A byte past the end reads as 0, and one that does not fit is not written.
+// What an item is made of, as bytes: its parts one after the other. A byte past the end reads as 0, and a number that does not fit is not written.
 // Kept: each struct names its fields twice, since the gate refuses an impl that a derive of the repository's own writes, and a store has two structs for its queues, since the C interface has them.
 use figure::{Address, Engine, Sizes};
+use lists::bytes::{WORD, put_u32};
 use shape::{Cache, InEntry, InQueue, OutEntry, OutQueue, Store};
 use std::array;
-use std::io::{Read, Write};
 
+// Bytes are taken off the front of a slice: a call of `Read` or `Write` for each of them took five times as long.
 pub(crate) trait Coded {
-    fn read<R: Read>(from: &mut R) -> Self;
+    fn read(from: &mut &[u8]) -> Self;
 
-    fn write<W: Write>(self, to: &mut W);
+    fn write(self, to: &mut &mut [u8]);
 }
 
 impl Coded for u8 {
-    fn read<R: Read>(from: &mut R) -> u8 {
-        let mut byte = [0];
-        let _ = from.read_exact(&mut byte);
-        byte[0]
+    fn read(from: &mut &[u8]) -> u8 {
+        from.split_off_first().copied().unwrap_or(0)
     }
 
-    fn write<W: Write>(self, to: &mut W) {
-        let _ = to.write_all(&[self]);
+    fn write(self, to: &mut &mut [u8]) {
+        if let Some(byte) = to.split_off_first_mut() {
+            *byte = self;
+        }
     }
 }
 
 impl Coded for bool {
-    fn read<R: Read>(from: &mut R) -> bool {
+    fn read(from: &mut &[u8]) -> bool {
         u8::read(from) != 0
     }
 
-    fn write<W: Write>(self, to: &mut W) {
+    fn write(self, to: &mut &mut [u8]) {
         u8::from(self).write(to);
     }
 }
 
 impl<T: Coded + Copy, const N: usize> Coded for [T; N] {
-    fn read<R: Read>(from: &mut R) -> [T; N] {
+    fn read(from: &mut &[u8]) -> [T; N] {
         array::from_fn(|_| T::read(from))
     }
 
-    fn write<W: Write>(self, to: &mut W) {
+    fn write(self, to: &mut &mut [u8]) {
         for x in self {
             x.write(to);
         }
@@ -46,37 +47,43 @@ impl<T: Coded + Copy, const N: usize> Coded for [T; N] {
 }
 
 impl Coded for u32 {
-    fn read<R: Read>(from: &mut R) -> u32 {
-        u32::from_be_bytes(Coded::read(from))
+    fn read(from: &mut &[u8]) -> u32 {
+        let Some((word, rest)) = from.split_first_chunk::<WORD>() else {
+            return u32::from_be_bytes(Coded::read(from));
+        };
+        *from = rest;
+        u32::from_be_bytes(*word)
     }
 
-    fn write<W: Write>(self, to: &mut W) {
-        self.to_be_bytes().write(to);
+    fn write(self, to: &mut &mut [u8]) {
+        if let Some(word) = to.split_off_mut(..WORD) {
+            put_u32(word, 0, self);
+        }
     }
 }
 
 impl Coded for Address {
-    fn read<R: Read>(from: &mut R) -> Address {
+    fn read(from: &mut &[u8]) -> Address {
         Address(Coded::read(from))
     }
 
-    fn write<W: Write>(self, to: &mut W) {
+    fn write(self, to: &mut &mut [u8]) {
         self.0.write(to);
     }
 }
 
 impl Coded for Engine {
-    fn read<R: Read>(from: &mut R) -> Engine {
+    fn read(from: &mut &[u8]) -> Engine {
         Engine(Coded::read(from))
     }
 
-    fn write<W: Write>(self, to: &mut W) {
+    fn write(self, to: &mut &mut [u8]) {
         self.0.write(to);
     }
 }
 
 impl Coded for Sizes {
-    fn read<R: Read>(from: &mut R) -> Sizes {
+    fn read(from: &mut &[u8]) -> Sizes {
         Sizes {
             engines: Coded::read(from),
             addresses: Coded::read(from),
@@ -84,7 +91,7 @@ impl Coded for Sizes {
         }
     }
 
-    fn write<W: Write>(self, to: &mut W) {
+    fn write(self, to: &mut &mut [u8]) {
         self.engines.write(to);
         self.addresses.write(to);
         self.depth.write(to);
@@ -92,49 +99,49 @@ impl Coded for Sizes {
 }
 
 impl Coded for Cache {
-    fn read<R: Read>(from: &mut R) -> Cache {
+    fn read(from: &mut &[u8]) -> Cache {
         Cache {
             present: Coded::read(from),
             data: Coded::read(from),
         }
     }
 
-    fn write<W: Write>(self, to: &mut W) {
+    fn write(self, to: &mut &mut [u8]) {
         self.present.write(to);
         self.data.write(to);
     }
 }
 
 impl Coded for OutEntry {
-    fn read<R: Read>(from: &mut R) -> OutEntry {
+    fn read(from: &mut &[u8]) -> OutEntry {
         OutEntry {
             address: Coded::read(from),
             data: Coded::read(from),
         }
     }
 
-    fn write<W: Write>(self, to: &mut W) {
+    fn write(self, to: &mut &mut [u8]) {
         self.address.write(to);
         self.data.write(to);
     }
 }
 
 impl Coded for OutQueue {
-    fn read<R: Read>(from: &mut R) -> OutQueue {
+    fn read(from: &mut &[u8]) -> OutQueue {
         OutQueue {
             len: Coded::read(from),
             entries: Coded::read(from),
         }
     }
 
-    fn write<W: Write>(self, to: &mut W) {
+    fn write(self, to: &mut &mut [u8]) {
         self.len.write(to);
         self.entries.write(to);
     }
 }
 
 impl Coded for InEntry {
-    fn read<R: Read>(from: &mut R) -> InEntry {
+    fn read(from: &mut &[u8]) -> InEntry {
         InEntry {
             origin: Coded::read(from),
             address: Coded::read(from),
@@ -142,7 +149,7 @@ impl Coded for InEntry {
         }
     }
 
-    fn write<W: Write>(self, to: &mut W) {
+    fn write(self, to: &mut &mut [u8]) {
         self.origin.write(to);
         self.address.write(to);
         self.data.write(to);
@@ -150,21 +157,21 @@ impl Coded for InEntry {
 }
 
 impl Coded for InQueue {
-    fn read<R: Read>(from: &mut R) -> InQueue {
+    fn read(from: &mut &[u8]) -> InQueue {
         InQueue {
             len: Coded::read(from),
             entries: Coded::read(from),
         }
     }
 
-    fn write<W: Write>(self, to: &mut W) {
+    fn write(self, to: &mut &mut [u8]) {
         self.len.write(to);
         self.entries.write(to);
     }
 }
 
 impl Coded for Store {
-    fn read<R: Read>(from: &mut R) -> Store {
+    fn read(from: &mut &[u8]) -> Store {
         Store {
             sizes: Coded::read(from),
             memory: Coded::read(from),
@@ -174,7 +181,7 @@ impl Coded for Store {
         }
     }
 
-    fn write<W: Write>(self, to: &mut W) {
+    fn write(self, to: &mut &mut [u8]) {
         self.sizes.write(to);
         self.memory.write(to);
         self.caches.write(to);

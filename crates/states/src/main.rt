@@ -8,6 +8,7 @@ use figure::{ADDRESSES, DEPTH, ENGINES, Record};
 use lists::bytes::{RECORD, WORD, put_record, record_at};
 use shape::Store;
 use std::io::{Read, Write};
+use stream::front::front;
 use stream::hash::hash;
 use stream::told;
 use stream::window::{CutShort, read_full};
@@ -26,10 +27,12 @@ const STATE: usize = 3 + MEMORY + ENGINES * (CACHE + OUT + IN);
 
 const ITEM: usize = STATE + RECORD;
 
+// A line has fewer bytes: a number of two digits, two of sixteen, and a word.
+const MOST_LINE: usize = 64;
+
 fn state_bytes(s: Store) -> [u8; STATE] {
     let mut bytes = [0; STATE];
-    let mut room = &mut bytes[..];
-    s.write(&mut room);
+    s.write(&mut &mut bytes[..]);
     bytes
 }
 
@@ -47,16 +50,19 @@ fn answer<W: Write>(writer: &mut W, item: &[u8; ITEM]) {
     let (after, said) = store::step(s, x);
     let mut kept = s;
     let said_in_place = store::step_in_place(&mut kept, x);
-    let state = state_bytes(after);
-    let is_same = said == said_in_place && state == state_bytes(kept);
+    let is_same = said == said_in_place && after == kept;
+    let mut line = [0; MOST_LINE];
+    let mut room = &mut line[..];
     let _ = writeln!(
-        writer,
+        room,
         "{} {:016x} {:016x} {}",
         told::number(&said),
         event_number(said.unwrap_or_default()),
-        hash(&state),
+        hash(&state_bytes(after)),
         told::whether_same(is_same)
     );
+    let left = room.len();
+    told::text(writer, front(&line, MOST_LINE.saturating_sub(left)));
 }
 
 // The next item, where the input does not end before it.

@@ -5,5 +5,7 @@ pub mod chunk;
 pub mod front;
 pub mod hash;
 pub mod room;
+#[cfg(test)]
+mod tests;
 pub mod told;
 pub mod window;
